@@ -1,2 +1,3 @@
 pub mod Tab
 pub mod Keep
+pub mod All

@@ -35,3 +35,8 @@ every p (a ∷ l) = p a && every p l
 abbrev pub sumOf {ℓ} : {A : Type ℓ} → (A → ℕ) → List A → ℕ
 sumOf f [] = 0
 sumOf f (a ∷ l) = f a + sumOf f l
+
+-- P of each element
+abbrev pub All : {A : Type 0} → (A → Type 0) → List A → Type 0
+All P [] = Unit {0}
+All P (a ∷ l) = P a × All P l
