@@ -1,0 +1,9 @@
+pub mod Nans
+pub mod Values
+pub mod Roots
+pub mod RootBits
+pub mod RootsOfPatterns
+pub mod Grid
+pub mod NearestRoots
+pub mod SquareRoots
+pub mod Widening

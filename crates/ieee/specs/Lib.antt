@@ -1,0 +1,5 @@
+pub mod Ops
+pub mod Roots
+pub mod Patterns
+pub mod Sqrt
+pub mod Acos
