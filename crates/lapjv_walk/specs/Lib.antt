@@ -1,0 +1,9 @@
+pub mod Marks
+pub mod Ops
+pub mod Loops
+pub mod Ccrt
+pub mod Carr
+pub mod Path
+pub mod Lapjv
+pub mod Holds
+pub mod Ends
