@@ -1,0 +1,3 @@
+pub mod Filter
+pub mod Gap
+pub mod Line
