@@ -1,0 +1,3 @@
+pub mod Boxes
+pub mod Track
+pub mod Rules
