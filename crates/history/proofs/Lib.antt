@@ -1,0 +1,4 @@
+pub mod Ages
+pub mod Sound
+pub mod Cut
+pub mod Rules

@@ -1,0 +1,4 @@
+pub mod Uncut
+pub mod Replay
+pub mod Sound
+pub mod Suffices
