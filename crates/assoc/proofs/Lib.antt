@@ -1,0 +1,4 @@
+pub mod NeverNan
+pub mod AtOrAbove
+pub mod Counts
+pub mod Matching

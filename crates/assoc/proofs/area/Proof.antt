@@ -1,0 +1,13 @@
+-- `assoc::area` meets its contract. Assumes nothing.
+use borrow.Author.Needs.{needs}
+use mathlib.Core.Path.{refl}
+use Rattle.assoc.specs.Overlap.{areaOf}
+use Rattle.assoc.proofs.area.Statement.{statement}
+use Rattle.assoc.proofs.area.Tie as tie
+
+returns : tie.Need-returns
+unfolding areaOf
+returns c = refl
+
+pub area-spec : {M : Type 1} → statement M
+area-spec = tie.close (tie.spec returns)

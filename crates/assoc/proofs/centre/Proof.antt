@@ -1,0 +1,13 @@
+-- `assoc::centre` meets its contract. Assumes nothing.
+use borrow.Author.Needs.{needs}
+use mathlib.Core.Path.{refl}
+use Rattle.assoc.specs.Angle.{centreOf}
+use Rattle.assoc.proofs.centre.Statement.{statement}
+use Rattle.assoc.proofs.centre.Tie as tie
+
+returns : tie.Need-returns
+unfolding centreOf
+returns c = refl
+
+pub centre-spec : {M : Type 1} → statement M
+centre-spec = tie.close (tie.spec returns)

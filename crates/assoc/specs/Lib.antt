@@ -1,0 +1,5 @@
+pub mod Overlap
+pub mod Angle
+pub mod Matching
+pub mod Associate
+pub mod Paired

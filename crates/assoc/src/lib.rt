@@ -1,0 +1,126 @@
+// Association of detections with tracks: assoc.rs, document 01, item 3, and the later rounds' matching of item 6.
+// Objects are lent as five numbers each (corners and score), boxes as four, directions as two (dy, dx).
+use object::Corners;
+use object::Detection;
+ghost use mathlib.Core.Path.{_≡_};
+ghost use Prim.Native.Nat.{_+_, _*_, _≤_};
+ghost use lib.ListN.{length};
+ghost use Rattle.object.specs.Object.{cornersOf};
+ghost use Rattle.assoc.specs.Overlap.{areaOf, sideOf, interOf, overlapOf};
+ghost use Rattle.assoc.specs.Angle.{centreOf, angleOf, maskOf};
+ghost use Rattle.assoc.specs.Associate.{angleTerm, detAt, cornersAt, overlaps};
+
+// ---- one object and one track
+
+fn area(b: Corners) -> f32
+    ensures { λ r. ⌜ r ≡ areaOf b ⌝ }
+{
+    (b.x2 - b.x1) * (b.y2 - b.y1)
+}
+
+// The common part's length on one axis.
+fn side(a1: f32, a2: f32, b1: f32, b2: f32) -> f32
+    ensures { λ r. ⌜ r ≡ sideOf a1 a2 b1 b2 ⌝ }
+{
+    ieee::max(ieee::min(a2, b2) - ieee::max(a1, b1), 0.0)
+}
+
+fn intersection(d: Corners, t: Corners) -> f32
+    ensures { λ r. ⌜ r ≡ interOf d t ⌝ }
+{
+    side(d.x1, d.x2, t.x1, t.x2) * side(d.y1, d.y2, t.y1, t.y2)
+}
+
+// Intersection over union.
+pub fn overlap(d: Corners, t: Corners) -> f32
+    ensures { λ r. ⌜ r ≡ overlapOf d t ⌝ }
+{
+    let inter = intersection(d, t);
+    let union = area(d) + area(t) - inter;
+    if 0.0 < union {
+        return inter / union;
+    }
+    0.0
+}
+
+fn centre(a: f32, b: f32) -> f32
+    ensures { λ r. ⌜ r ≡ centreOf a b ⌝ }
+{
+    (a + b) / 2.0
+}
+
+// Half pi less the angle of a cosine, as a part of pi.
+fn angle(c: f32) -> f32
+    ensures { λ r. ⌜ r ≡ angleOf c ⌝ }
+{
+    (ieee::FRAC_PI_2 - ieee::abs(ieee::acos(ieee::clamp(c, -1.0, 1.0)))) / ieee::PI
+}
+
+// 0 for a placeholder, whose score is below 0.
+fn mask(score: f32) -> f32
+    ensures { λ r. ⌜ r ≡ maskOf score ⌝ }
+{
+    if score < 0.0 {
+        return 0.0;
+    }
+    1.0
+}
+
+// The angle term of an object d and a track that heads dy, dx and was at p before.
+pub fn angle_term(inertia: f32, d: Detection, dy: f32, dx: f32, p: Detection) -> f32
+    ensures { λ r. ⌜ r ≡ angleTerm inertia d (record { dy = dy; dx = dx }) p ⌝ }
+{
+    let to_x = centre(d.x1, d.x2) - centre(p.x1, p.x2);
+    let to_y = centre(d.y1, d.y2) - centre(p.y1, p.y2);
+    let norm = ieee::sqrt(to_x * to_x + to_y * to_y) + 1e-6;
+    let cosine = dx * (to_x / norm) + dy * (to_y / norm);
+    mask(p.score) * angle(cosine) * inertia * d.score
+}
+
+// ---- entries of the lent slices
+
+fn corners_at(cells: &[f32], j: usize) -> Corners
+    requires { ⌜ j * 4 + 4 ≤ length (now cells) ⌝ }
+    ensures { λ r. ⌜ r ≡ cornersAt (now (cells .entry)) j ⌝ }
+{
+    let at = j * 4;
+    Corners {
+        x1: cells[at],
+        y1: cells[at + 1],
+        x2: cells[at + 2],
+        y2: cells[at + 3],
+    }
+}
+
+fn detection_at(cells: &[f32], i: usize) -> Detection
+    requires { ⌜ i * 5 + 5 ≤ length (now cells) ⌝ }
+    ensures { λ r. ⌜ r ≡ detAt (now (cells .entry)) i ⌝ }
+{
+    let at = i * 5;
+    Detection {
+        x1: cells[at],
+        y1: cells[at + 1],
+        x2: cells[at + 2],
+        y2: cells[at + 3],
+        score: cells[at + 4],
+    }
+}
+
+fn corners(d: Detection) -> Corners
+    ensures { λ r. ⌜ r ≡ cornersOf d ⌝ }
+{
+    Corners {
+        x1: d.x1,
+        y1: d.y1,
+        x2: d.x2,
+        y2: d.y2,
+    }
+}
+
+// The overlap of object i and box j.
+fn overlap_at(dets: &[f32], boxes: &[f32], i: usize, j: usize) -> f32
+    requires { ⌜ (i * 5 + 5 ≤ length (now dets)) × (j * 4 + 4 ≤ length (now boxes)) ⌝ }
+    ensures { λ r. ⌜ r ≡ overlaps (detAt (now (dets .entry))) (cornersAt (now (boxes .entry))) i j ⌝ }
+{
+    overlap(corners(detection_at(dets, i)), corners_at(boxes, j))
+}
