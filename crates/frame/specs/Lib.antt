@@ -1,0 +1,5 @@
+pub mod State
+pub mod Objects
+pub mod Rounds
+pub mod Frame
+pub mod Contract
