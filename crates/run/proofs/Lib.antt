@@ -1,0 +1,9 @@
+pub mod Seats
+pub mod Rounds
+pub mod Sim
+pub mod Rules
+pub mod Writing
+pub mod Places
+pub mod Laws
+pub mod Accepted
+pub mod EveryRun

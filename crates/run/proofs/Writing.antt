@@ -1,0 +1,133 @@
+-- What writing a frame into the book does, entry by entry: ids, counts, growth, and any property that each line keeps. Assumes nothing.
+use mathlib.Core.Path.{_≡_, refl, sym, ap, ap₂, subst, _∙_}
+use mathlib.Core.Bool.{Bool, true, false, not, _&&_}
+use mathlib.Core.Option.{Option, none, some}
+use mathlib.Core.List.{List, [], _∷_, _++_, map, nil≢cons, head-eq-of-cons-eq, tail-eq-of-cons-eq}
+use mathlib.Core.Logic.{_⊎_, inl, inr, _≢_}
+use Prim.Native.Nat.{ℕ, zero, suc, _+_, _≤_, _<_}
+use native.Mathlib.Nat.{suc-inj}
+use native.Mathlib.Omega.{arith}
+use lib.ListN.{length}
+use Rattle.lists.specs.Lists.{pick, put, keep, sumOf, upFrom, All}
+use Rattle.frame.specs.declared.Settings.{Settings}
+use Rattle.frame.specs.Objects.{Obj}
+use Rattle.frame.specs.Rounds.{View, Grant, Slot}
+use Rattle.run.specs.Book.{Stamped, Line, miss, box, Status, open′, broken, agedOut, Entry, isOpen, live, closedBy, withStatus, breaks, breakEntry, isOld, ageEntry, viewOfEntry, nextLine, withLine, written, write, opened}
+use Rattle.run.specs.Claim.{isAt, inLine, inEntry, Later, Grown}
+use Rattle.run.proofs.Seats.{got-weight, slot-weight}
+
+-- ---- a property of each entry, where each open entry gets the slot with its view
+
+module _ (s : Settings) (F : Slot → Type 0) (n : ℕ) (Q P : Entry → Type 0) (stays : (e : Entry) → Q e → P e)
+    (gets : (e : Entry) (a : Slot) → e .status ≡ open′ → a .view ≡ viewOfEntry s e → F a → Q e → P (withLine e (nextLine n (a .got)))) where
+  write-one : (e : Entry) (es : List Entry) (q : Status) (ss : List Slot)
+      → ((r : List Slot) → map (λ (a : Slot). a .view) r ≡ map (viewOfEntry s) (live es) → All F r → All P (write n es r))
+      → map (λ (a : Slot). a .view) ss ≡ map (viewOfEntry s) (put (isOpen q) (withStatus e q) (live es)) → All F ss → Q (withStatus e q)
+      → All P (written n q (withStatus e q) ss (λ r. write n es r))
+  write-one e es open′ [] ih h f x = absurd (nil≢cons h)
+  write-one e es open′ (a ∷ ss) ih h f x = (gets (withStatus e open′) a refl (head-eq-of-cons-eq h) (f .0) x, ih ss (tail-eq-of-cons-eq h) (f .1))
+  write-one e es broken ss ih h f x = (stays (withStatus e broken) x, ih ss h f)
+  write-one e es agedOut ss ih h f x = (stays (withStatus e agedOut) x, ih ss h f)
+
+  pub write-all : (es : List Entry) (ss : List Slot) → map (λ (a : Slot). a .view) ss ≡ map (viewOfEntry s) (live es) → All F ss → All Q es → All P (write n es ss)
+  write-all [] ss h f a = tt
+  write-all (e ∷ es) ss h f a = write-one e es (e .status) ss (λ r h′ f′. write-all es r h′ f′ (a .1)) h f (a .0)
+
+-- ---- ids
+
+abbrev pub ids : List Entry → List ℕ
+ids es = map (λ (e : Entry). e .id) es
+
+pub ids-status : (f : Entry → Status) (es : List Entry) → ids (map (λ (e : Entry). withStatus e (f e)) es) ≡ ids es
+ids-status f [] = refl
+ids-status f (e ∷ es) = ap (λ l. e .id ∷ l) (ids-status f es)
+
+ids-write-one : (n : ℕ) (e : Entry) (es : List Entry) (q : Status) (ss : List Slot) → ((r : List Slot) → ids (write n es r) ≡ ids es) → ids (written n q e ss (λ r. write n es r)) ≡ e .id ∷ ids es
+ids-write-one n e es open′ [] ih = ap (λ l. e .id ∷ l) (ih [])
+ids-write-one n e es open′ (a ∷ ss) ih = ap (λ l. e .id ∷ l) (ih ss)
+ids-write-one n e es broken ss ih = ap (λ l. e .id ∷ l) (ih ss)
+ids-write-one n e es agedOut ss ih = ap (λ l. e .id ∷ l) (ih ss)
+
+pub ids-write : (n : ℕ) (es : List Entry) (ss : List Slot) → ids (write n es ss) ≡ ids es
+ids-write n [] ss = refl
+ids-write n (e ∷ es) ss = ids-write-one n e es (e .status) ss (ids-write n es)
+
+pub ids-opened : (n i : ℕ) (os : List Obj) → ids (opened n i os) ≡ upFrom i (length os)
+ids-opened n i [] = refl
+ids-opened n i (o ∷ os) = ap (λ l. i ∷ l) (ids-opened n (suc i) os)
+
+-- ---- how often an object is written
+
+-- 1 where the object, taken in frame n, stands at place p of frame k
+abbrev pub hit : ℕ → ℕ → ℕ → Obj → ℕ
+hit k p n o = isAt k p (record { frame = n; obj = o })
+
+line-weight : (k p n : ℕ) (g : Option Grant) → inLine k p (nextLine n g) ≡ got-weight (hit k p n) g
+line-weight k p n none = refl
+line-weight k p n (some g) = refl
+
+abbrev Counts : ℕ → ℕ → ℕ → List Entry → List Slot → Type 0
+Counts k p n es ss = sumOf (inEntry k p) (write n es ss) ≡ sumOf (inEntry k p) es + sumOf (slot-weight (hit k p n)) ss
+
+count-one : (k p n : ℕ) (e : Entry) (es : List Entry) (q : Status) (ss : List Slot) → ((r : List Slot) → length r ≡ length (live es) → Counts k p n es r)
+    → length ss ≡ length (put (isOpen q) e (live es))
+    → sumOf (inEntry k p) (written n q e ss (λ r. write n es r)) ≡ inEntry k p e + sumOf (inEntry k p) es + sumOf (slot-weight (hit k p n)) ss
+count-one k p n e es open′ [] ih h = absurd (let z : 0 ≢ suc (length (live es)) = omega arith in z h)
+count-one k p n e es open′ (a ∷ ss) ih h = rw (line-weight k p n (a .got)) (omega (arith, ih ss (suc-inj h)))
+count-one k p n e es broken ss ih h = omega (arith, ih ss h)
+count-one k p n e es agedOut ss ih h = omega (arith, ih ss h)
+
+pub count-write : (k p n : ℕ) (es : List Entry) (ss : List Slot) → length ss ≡ length (live es) → Counts k p n es ss
+count-write k p n [] [] h = refl
+count-write k p n [] (a ∷ ss) h = absurd (let z : suc (length ss) ≢ 0 = omega arith in z h)
+count-write k p n (e ∷ es) ss h = count-one k p n e es (e .status) ss (λ r. count-write k p n es r) h
+
+pub count-opened : (k p n i : ℕ) (os : List Obj) → sumOf (inEntry k p) (opened n i os) ≡ sumOf (hit k p n) os
+count-opened k p n i [] = refl
+count-opened k p n i (o ∷ os) = omega (arith, count-opened k p n (suc i) os)
+
+-- ---- how many are live
+
+live-one : (n : ℕ) (e : Entry) (es : List Entry) (q : Status) (ss : List Slot) → ((r : List Slot) → length (live (write n es r)) ≡ length (live es))
+    → length (live (written n q (withStatus e q) ss (λ r. write n es r))) ≡ length (put (isOpen q) (withStatus e q) (live es))
+live-one n e es open′ [] ih = ap suc (ih [])
+live-one n e es open′ (a ∷ ss) ih = ap suc (ih ss)
+live-one n e es broken ss ih = ih ss
+live-one n e es agedOut ss ih = ih ss
+
+pub live-write-length : (n : ℕ) (es : List Entry) (ss : List Slot) → length (live (write n es ss)) ≡ length (live es)
+live-write-length n [] ss = refl
+live-write-length n (e ∷ es) ss = live-one n e es (e .status) ss (live-write-length n es)
+
+pub live-opened-length : (n i : ℕ) (os : List Obj) → length (live (opened n i os)) ≡ length os
+live-opened-length n i [] = refl
+live-opened-length n i (o ∷ os) = ap suc (live-opened-length n (suc i) os)
+
+-- ---- growth
+
+later-open : (e f : Entry) → e .status ≡ open′ → f .id ≡ e .id → f .birth ≡ e .birth → (f .lines ≡ e .lines) ⊎ ((l : Line) × (f .lines ≡ l ∷ e .lines)) → Later e f
+later-open e f o i b l = record { same-id = i; same-birth = b; one-line = l; closed-stays = λ h. absurd (h o) }
+
+pub later-same : (e : Entry) → Later e e
+later-same e = record { same-id = refl; same-birth = refl; one-line = inl refl; closed-stays = λ h. refl }
+
+module _ (s : Settings) (n : ℕ) where
+  -- of the entries behind, whatever slots come to them and whatever is opened after
+  abbrev Rest : List Entry → Type 0
+  Rest es = (r : List Slot) (new : List Entry) → Grown es (map (ageEntry s) (write n (map (breakEntry s) es) r ++ new))
+
+  grown-open : (e : Entry) (es : List Entry) (new : List Entry) → e .status ≡ open′ → (t : Bool) (ss : List Slot) → Rest es
+      → Grown (e ∷ es) (map (ageEntry s) (written n (closedBy broken open′ t) (withStatus e (closedBy broken open′ t)) ss (λ r. write n (map (breakEntry s) es) r) ++ new))
+  grown-open e es new o true ss ih = (later-open e _ o refl refl (inl refl), ih ss new)
+  grown-open e es new o false [] ih = (later-open e _ o refl refl (inl refl), ih [] new)
+  grown-open e es new o false (a ∷ ss) ih = (later-open e _ o refl refl (inr (nextLine n (a .got), refl)), ih ss new)
+
+  grown-one : (e : Entry) (es : List Entry) (q : Status) (ss : List Slot) (new : List Entry) → e .status ≡ q → Rest es
+      → Grown (e ∷ es) (map (ageEntry s) (written n (closedBy broken q (breaks s e)) (withStatus e (closedBy broken q (breaks s e))) ss (λ r. write n (map (breakEntry s) es) r) ++ new))
+  grown-one e es open′ ss new o ih = grown-open e es new o (breaks s e) ss ih
+  grown-one e es broken ss new o ih = (subst (λ (q : Status). Later e (withStatus e q)) o (later-same e), ih ss new)
+  grown-one e es agedOut ss new o ih = (subst (λ (q : Status). Later e (withStatus e q)) o (later-same e), ih ss new)
+
+  pub grown-write : (es : List Entry) → Rest es
+  grown-write [] r new = tt
+  grown-write (e ∷ es) r new = grown-one e es (e .status) r new refl (grown-write es)

@@ -1,0 +1,96 @@
+-- What demand 3 says of a book: how often an object is written, which pairs overlapped, what a status means, and how entries grow. Definitions only.
+use mathlib.Core.Path.{_≡_}
+use mathlib.Core.Bool.{Bool, true, false, _&&_}
+use mathlib.Core.List.{List, [], _∷_}
+use mathlib.Core.Logic.{_⊎_}
+use Prim.Native.Nat.{ℕ, zero, suc, _+_}
+use lib.Dec.{T, eqb}
+use lib.Ieee.{Float, nan, le}
+use lib.ListN.{length, getD}
+use Rattle.lists.specs.Lists.{pick, sumOf}
+use Rattle.object.specs.declared.Corners.{Corners}
+use Rattle.object.specs.Object.{cornersOf}
+use Rattle.assoc.specs.Overlap.{overlapOf}
+use Rattle.frame.specs.declared.Settings.{Settings}
+use Rattle.frame.specs.Objects.{Obj}
+use Rattle.frame.specs.Rounds.{View}
+use Rattle.run.specs.Book.{Stamped, Line, miss, box, Status, open′, broken, agedOut, Entry, viewOfEntry, breaks, isOld}
+
+-- ---- objects
+
+-- the input of accepted frame n, counted from 1; the list has the newest frame first
+abbrev pub inputOf : List (List Float) → ℕ → List Float
+inputOf [] n = []
+inputOf (input ∷ past) n = pick (eqb n (suc (length past))) input (inputOf past n)
+
+-- 1 where the box is that of place p in frame n
+abbrev pub isAt : ℕ → ℕ → Stamped → ℕ
+isAt n p b = pick (eqb (b .frame) n && eqb (b .obj .place) p) 1 0
+
+abbrev pub inLine : ℕ → ℕ → Line → ℕ
+inLine n p miss = 0
+inLine n p (box k b) = isAt n p b
+
+abbrev pub inEntry : ℕ → ℕ → Entry → ℕ
+inEntry n p e = isAt n p (e .birth) + sumOf (inLine n p) (e .lines)
+
+-- how often the object at place p of frame n is written: to how many entries it has gone
+unfoldable pub timesWritten : ℕ → ℕ → List Entry → ℕ
+timesWritten n p es = sumOf (inEntry n p) es
+
+-- the boxes written in an entry, its birth box last
+abbrev pub boxesOf : Stamped → List Line → List Stamped
+boxesOf b [] = b ∷ []
+boxesOf b (miss ∷ ls) = boxesOf b ls
+boxesOf b (box k o ∷ ls) = o ∷ boxesOf b ls
+
+-- how many boxes of frame n an entry has
+abbrev pub ofFrame : ℕ → Stamped → ℕ
+ofFrame n b = pick (eqb (b .frame) n) 1 0
+
+abbrev pub lineOfFrame : ℕ → Line → ℕ
+lineOfFrame n miss = 0
+lineOfFrame n (box k b) = ofFrame n b
+
+unfoldable pub boxesInFrame : ℕ → Entry → ℕ
+boxesInFrame n e = ofFrame n (e .birth) + sumOf (lineOfFrame n) (e .lines)
+
+-- ---- pairs
+
+-- what a round compares an object with: the predicted box or, in the round on last boxes, the last box
+abbrev pub targetOf : ℕ → View → Corners
+targetOf zero v = v .box
+targetOf (suc zero) v = v .box
+targetOf (suc (suc k)) v = v .last
+
+-- they overlap by the threshold or more
+unfoldable pub Meets : Settings → ℕ → Obj → View → Type 0
+Meets s k o v = T (le (s .«iou_threshold») (overlapOf (cornersOf (o .det)) (targetOf k v)))
+
+-- each box after the birth met, in its round, what the replay of the lines before it gives
+abbrev pub Overlapped : Settings → ℕ → Stamped → List Line → Type 0
+Overlapped s id b [] = Unit {0}
+Overlapped s id b (miss ∷ ls) = Overlapped s id b ls
+Overlapped s id b (box k o ∷ ls) = Meets s k (o .obj) (viewOfEntry s (record { id = id; birth = b; lines = ls; status = open′ })) × Overlapped s id b ls
+
+-- ---- status
+
+-- broken: predicted once more, a position is NaN; aged out: replayed frames since update exceed max_age; live: they don't
+abbrev pub Because : Settings → Entry → Status → Type 0
+Because s e open′ = isOld s e ≡ false
+Because s e broken = breaks s e ≡ true
+Because s e agedOut = isOld s e ≡ true
+
+-- ---- growth
+
+-- A further call keeps an entry's id, birth and lines and adds at most one line; a closed entry stays as it is.
+pub record Later (e f : Entry) : Type 0 where
+  pub same-id : f .id ≡ e .id
+  pub same-birth : f .birth ≡ e .birth
+  pub one-line : (f .lines ≡ e .lines) ⊎ ((l : Line) × (f .lines ≡ l ∷ e .lines))
+  pub closed-stays : (e .status ≡ open′ → ⊥) → f ≡ e
+
+abbrev pub Grown : List Entry → List Entry → Type 0
+Grown [] fs = Unit {0}
+Grown (e ∷ es) [] = ⊥
+Grown (e ∷ es) (f ∷ fs) = Later e f × Grown es fs

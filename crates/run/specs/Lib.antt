@@ -1,0 +1,4 @@
+pub mod Book
+pub mod Claim
+pub mod Laws
+pub mod Run

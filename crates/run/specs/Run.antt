@@ -1,0 +1,127 @@
+-- Demand 3: a run, its book, and the one claim about every list of calls. Definitions only.
+use mathlib.Core.Path.{_≡_}
+use mathlib.Core.Bool.{Bool, true, false}
+use mathlib.Core.List.{List, [], _∷_, map, List·Memᴰ}
+use Prim.Native.Nat.{ℕ, zero, suc, _+_, _/_, _≤_, _<_}
+use lib.Dec.{T}
+use lib.Ieee.{Float}
+use lib.ListN.{length}
+use Rattle.lists.specs.Lists.{upFrom}
+use Rattle.object.specs.declared.Refusal.{Refusal}
+use Rattle.object.specs.declared.Refusal.the-variants.{UnsoundState}
+use Rattle.frame.specs.declared.Settings.{Settings}
+use Rattle.frame.specs.declared.Tracked.{Tracked}
+use Rattle.frame.specs.declared.Tracker.{Tracker}
+use Rattle.frame.specs.declared.Outcome.{Outcome}
+use Rattle.frame.specs.declared.Outcome.the-variants.{Accepted, Refused}
+use Rattle.frame.specs.declared.Answer.{Answer}
+use Rattle.frame.specs.State as State
+use Rattle.frame.specs.State.{inRange, emptyTracker}
+use Rattle.frame.specs.Objects.{detectionAt, firstScore, spareScore}
+use Rattle.frame.specs.Frame.{Call, Reply, refused, reports, boxesAfter, idsAfter}
+use Rattle.frame.specs.Contract.{outcomeOf, reportsIn, callOf, Framed}
+use Rattle.run.specs.Book.{Stamped, Status, Entry, Book, noneYet, live, trackOf, enter}
+use Rattle.run.specs.Claim.{inputOf, timesWritten, boxesOf, boxesInFrame, Overlapped, Because, Grown}
+use Rattle.run.specs.Laws.{scoreAt}
+
+-- ---- runs
+
+-- a call as its caller sees it: what went in, and what came out
+pub record Seen : Type 0 where
+  pub input : List Float
+  pub boxes : List Float
+  pub ids : List ℕ
+  pub answer : Answer
+  pub boxes-left : List Float
+  pub ids-left : List ℕ
+
+-- A run, newest call first. It starts from the tracker as made with accepted settings; each call gets the tracker that the last one returned.
+pub data Run (s : Settings) : List Seen → Tracker → Type 0 where
+  made : inRange s ≡ true → Run s [] (emptyTracker s)
+  called : {xs : List Seen} {t : Tracker} → Run s xs t → (x : Seen) → Framed t (x .input) (x .boxes) (x .ids) (x .answer) (x .boxes-left) (x .ids-left) → Run s (x ∷ xs) (x .answer .tracker)
+
+-- ---- the book of the run, from the settings, the inputs and the buffers' lengths alone
+
+abbrev pub callSeen : Seen → Call
+callSeen x = callOf (x .input) (x .boxes) (x .ids)
+
+abbrev pub bookOf : Settings → List Seen → Book
+bookOf s [] = noneYet
+bookOf s (x ∷ xs) = enter s (bookOf s xs) (callSeen x) .next
+
+-- the book's answer to x after the calls xs
+abbrev pub bookReply : Settings → List Seen → Seen → Reply
+bookReply s xs x = enter s (bookOf s xs) (callSeen x) .reply
+
+-- a call gave this reply: outcome, count, and both buffers, every cell
+pub record Gave (x : Seen) (r : Reply) : Type 0 where
+  pub outcome : x .answer .outcome ≡ outcomeOf r
+  pub count : x .answer .count ≡ length (reportsIn r)
+  pub boxes : x .boxes-left ≡ boxesAfter r (x .boxes)
+  pub ids : x .ids-left ≡ idsAfter r (x .ids)
+
+abbrev pub Answered : Settings → List Seen → Type 0
+Answered s [] = Unit {0}
+Answered s (x ∷ xs) = Gave x (bookReply s xs x) × Answered s xs
+
+-- the inputs of the calls answered with reports, newest first
+abbrev pub withInput : Outcome → List Float → List (List Float) → List (List Float)
+withInput Accepted input past = input ∷ past
+withInput (Refused r) input past = past
+
+abbrev pub acceptedInputs : List Seen → List (List Float)
+acceptedInputs [] = []
+acceptedInputs (x ∷ xs) = withInput (x .answer .outcome) (x .input) (acceptedInputs xs)
+
+-- the input of the n-th call answered with reports, n from 1
+abbrev pub inputAt : List Seen → ℕ → List Float
+inputAt xs n = inputOf (acceptedInputs xs) n
+
+-- what each call did to the entries before it
+pub record Extended (x : Seen) (before after : Book) : Type 0 where
+  -- a refused call closes no entry and writes nothing
+  pub refused-keeps : (r : Refusal) → x .answer .outcome ≡ Refused r → after ≡ before
+  -- a further call keeps every entry's id, birth and lines and adds at most one line; closed entries stay as they are
+  pub grown : Grown (before .entries) (after .entries)
+  -- no call of a run is refused as unsound
+  pub never-unsound : x .answer .outcome ≡ Refused UnsoundState → ⊥
+
+abbrev pub Histories : Settings → List Seen → Type 0
+Histories s [] = Unit {0}
+Histories s (x ∷ xs) = Extended x (bookOf s xs) (bookOf s (x ∷ xs)) × Histories s xs
+
+-- ---- the claim
+
+pub record Holds (s : Settings) (xs : List Seen) (t : Tracker) (b : Book) : Type 0 where
+  -- 'each call gave the book's answer, a refusal's number or the reports'
+  pub answers : Answered s xs
+  pub histories : Histories s xs
+  -- 'every first-class object of an accepted frame has gone to exactly one track, old or newborn': cell 5p + 4 of the n-th accepted input is the score of place p
+  pub first-class : (n p : ℕ) → p < length (inputAt xs n) / 5 → T (firstScore s (scoreAt (inputAt xs n) p)) → timesWritten n p (b .entries) ≡ 1
+  -- 'every spare object to at most one'; any other to none
+  pub spare : (n p : ℕ) → p < length (inputAt xs n) / 5 → T (spareScore s (scoreAt (inputAt xs n) p)) → timesWritten n p (b .entries) ≤ 1
+  pub dropped : (n p : ℕ) → firstScore s (scoreAt (inputAt xs n) p) ≡ false → spareScore s (scoreAt (inputAt xs n) p) ≡ false → timesWritten n p (b .entries) ≡ 0
+  pub past-end : (n p : ℕ) → length (inputAt xs n) / 5 ≤ p → timesWritten n p (b .entries) ≡ 0
+  -- what is written at a frame and place is the box and score that exactly those five numbers give
+  pub genuine : (e : Entry) → List·Memᴰ e (b .entries) → (o : Stamped) → List·Memᴰ o (boxesOf (e .birth) (e .lines))
+      → (o .obj .det ≡ detectionAt (inputAt xs (o .frame)) (o .obj .place)) × (o .obj .place < length (inputAt xs (o .frame)) / 5)
+  -- 'no track got two in a frame'
+  pub one-each : (n : ℕ) (e : Entry) → List·Memᴰ e (b .entries) → boxesInFrame n e ≤ 1
+  -- 'each pair overlapped by the threshold or more in the round that made it'
+  pub overlaps : (e : Entry) → List·Memᴰ e (b .entries) → Overlapped s (e .id) (e .birth) (e .lines)
+  -- 'ids were issued in sequence and never given again'
+  pub ids : map (λ (e : Entry). e .id) (b .entries) ≡ upFrom 0 (length (b .entries))
+  -- 'each now exactly one of live, broken and aged out', for its cause
+  pub status : (e : Entry) → List·Memᴰ e (b .entries) → Because s e (e .status)
+  -- 'the tracker holds exactly the live ids, in order'
+  pub live-ids : map (λ (u : Tracked). u .id) (State.live t) ≡ map (λ (e : Entry). e .id) (live (b .entries))
+  -- 'and counts as many frames and issued ids as the book'; the settings are the run's
+  pub frames : t .frames ≡ b .frames
+  pub frames-answered : b .frames ≡ length (acceptedInputs xs)
+  pub issued : t .issued ≡ length (b .entries)
+  pub settings : t .settings ≡ s
+  -- 'every live track holds, beside its id, exactly what replaying its own birth box, later boxes and misses alone under the run's settings, from a history that forgets nothing, would give'
+  pub replays : State.live t ≡ map (trackOf s) (live (b .entries))
+
+abbrev pub EveryRun : Type 0
+EveryRun = (s : Settings) (xs : List Seen) (t : Tracker) → Run s xs t → Holds s xs t (bookOf s xs)

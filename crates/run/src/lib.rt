@@ -1,0 +1,7 @@
+// The book of a run, and the claim about every list of calls.
+ghost use Rattle.run.specs.Run.{EveryRun};
+
+// Does nothing, and ensures the claim.
+pub fn every_run()
+    ensures { λ r. ⌜ EveryRun ⌝ }
+{}
