@@ -1,0 +1,312 @@
+// The words of a line by which the module is compared with the original: bit patterns in hexadecimal and whole numbers in decimal,
+// read from a lent line and put into a lent answer. Reading never goes past the line and writing never past the answer.
+ghost use mathlib.Core.Path.{_≡_};
+ghost use Prim.Native.Nat.{_<_, _≤_};
+ghost use lib.Ieee.{binary32, binary64, ofBits};
+
+// A word that was read: where it ends, and its number. A word that is none has `good` false.
+pub struct Word {
+    pub good: bool,
+    pub value: u64,
+    pub end: usize,
+}
+
+// The byte at a place, 0 past the end.
+pub fn byte_at(line: &[u8], at: usize) -> u8 {
+    if at < line.len() { line[at] } else { 0 }
+}
+
+// The next place, the end's own at the end.
+pub fn next(line: &[u8], at: usize) -> usize {
+    if at < line.len() { at + 1 } else { at }
+}
+
+// Whether a word can end here: at the line's end, or before a blank.
+pub fn is_end(line: &[u8], at: usize) -> bool {
+    if at < line.len() {
+        line[at] == b' '
+    } else {
+        true
+    }
+}
+
+fn bad() -> Word {
+    Word {
+        good: false,
+        value: 0,
+        end: 0,
+    }
+}
+
+// The value of an upper-case hexadecimal digit, 16 for any other byte.
+pub fn hex_value(b: u8) -> u64
+    ensures { λ r. ⌜ r ≤ 16 ⌝ }
+{
+    if b < b'0' {
+        return 16;
+    }
+    if b <= b'9' {
+        return (b - b'0') as u64;
+    }
+    if b < b'A' {
+        return 16;
+    }
+    if b <= b'F' {
+        return (b - 55) as u64;
+    }
+    16
+}
+
+// The hexadecimal word of so many digits behind the blank at `at`.
+pub fn hex_word(line: &[u8], at: usize, digits: usize) -> Word {
+    if byte_at(line, at) != b' ' {
+        return bad();
+    }
+    let mut p = next(line, at);
+    let mut value: u64 = 0;
+    let mut left = digits;
+    while left > 0 {
+        let d = hex_value(byte_at(line, p));
+        if d > 15 {
+            return bad();
+        }
+        value = value % 0x1000_0000_0000_0000 * 16 + d;
+        p = next(line, p);
+        left -= 1;
+    }
+    Word {
+        good: is_end(line, p),
+        value,
+        end: p,
+    }
+}
+
+// The decimal word below 2^32 behind the blank at `at`.
+pub fn whole_word(line: &[u8], at: usize) -> Word {
+    if byte_at(line, at) != b' ' {
+        return bad();
+    }
+    let mut p = next(line, at);
+    let mut value: u64 = 0;
+    let mut digits: usize = 0;
+    while digits < 11 {
+        let d = hex_value(byte_at(line, p));
+        if d > 9 {
+            break;
+        }
+        value = value % 1000000000000 * 10 + d;
+        p = next(line, p);
+        digits += 1;
+    }
+    Word {
+        good: is_end(line, p) && 0 < digits && value < 0x1_0000_0000,
+        value,
+        end: p,
+    }
+}
+
+// The f32 of a bit pattern, any NaN's too.
+pub fn f32_of(b: u32) -> f32
+    ensures { λ r. ⌜ r ≡ ofBits binary32 b ⌝ }
+{
+    if 0x7f80_0000 < b % 0x8000_0000 {
+        return 0.0 / 0.0;
+    }
+    f32::from_bits(b)
+}
+
+// The f64 of a bit pattern, any NaN's too.
+pub fn f64_of(b: u64) -> f64
+    ensures { λ r. ⌜ r ≡ ofBits binary64 b ⌝ }
+{
+    if 0x7ff0_0000_0000_0000 < b % 0x8000_0000_0000_0000 {
+        return 0.0 / 0.0;
+    }
+    f64::from_bits(b)
+}
+
+// The f32 behind the blank at `at`, 0 where there is none.
+pub struct F32Word {
+    pub good: bool,
+    pub value: f32,
+    pub end: usize,
+}
+
+pub fn f32_word(line: &[u8], at: usize) -> F32Word {
+    let w = hex_word(line, at, 8);
+    F32Word {
+        good: w.good,
+        value: f32_of(low(w.value)),
+        end: w.end,
+    }
+}
+
+// The low 32 bits.
+pub fn low(x: u64) -> u32 {
+    (x % 0x1_0000_0000) as u32
+}
+
+// How many numbers were read, and whether all were good. Numbers for which there is no room are counted and left out.
+pub struct Count {
+    pub good: bool,
+    pub n: usize,
+}
+
+fn store_f32(into: &mut [f32], at: usize, x: f32) {
+    if at < into.len() {
+        into[at] = x;
+    }
+}
+
+fn store_f64(into: &mut [f64], at: usize, x: f64) {
+    if at < into.len() {
+        into[at] = x;
+    }
+}
+
+// The f32s from the blank at `at` to the line's end.
+pub fn read_f32s(line: &[u8], at: usize, into: &mut [f32]) -> Count {
+    let mut p = at;
+    let mut n = 0;
+    let mut good = true;
+    let mut left = line.len();
+    while left > 0 && good && p < line.len() {
+        let w = f32_word(line, p);
+        store_f32(into, n, w.value);
+        good = w.good;
+        p = w.end;
+        n = n + 1;
+        left -= 1;
+    }
+    Count { good, n }
+}
+
+// The f64s from the blank at `at` to the line's end.
+pub fn read_f64s(line: &[u8], at: usize, into: &mut [f64]) -> Count {
+    let mut p = at;
+    let mut n = 0;
+    let mut good = true;
+    let mut left = line.len();
+    while left > 0 && good && p < line.len() {
+        let w = hex_word(line, p, 16);
+        store_f64(into, n, f64_of(w.value));
+        good = w.good;
+        p = w.end;
+        n = n + 1;
+        left -= 1;
+    }
+    Count { good, n }
+}
+
+// Whether the line's first word is this one.
+pub fn is_word(line: &[u8], word: &[u8]) -> bool {
+    let mut i = 0;
+    while i < word.len() {
+        if byte_at(line, i) != word[i] {
+            return false;
+        }
+        i += 1;
+    }
+    is_end(line, i)
+}
+
+// Puts a byte and answers the next place; where the answer is full, nothing.
+pub fn put(out: &mut [u8], at: usize, b: u8) -> usize {
+    if at < out.len() {
+        out[at] = b;
+        return at + 1;
+    }
+    at
+}
+
+// Puts each byte of a text.
+pub fn put_text(out: &mut [u8], at: usize, text: &[u8]) -> usize {
+    let mut to = at;
+    let mut i = 0;
+    while i < text.len() {
+        to = put(out, to, text[i]);
+        i += 1;
+    }
+    to
+}
+
+fn glyph(d: u64) -> u8
+    requires { ⌜ d < 16 ⌝ }
+{
+    if d < 10 { 48 + d as u8 } else { 55 + d as u8 }
+}
+
+// Puts the last so many hexadecimal digits.
+pub fn put_hex(out: &mut [u8], at: usize, x: u64, digits: u32) -> usize
+    requires { ⌜ digits ≤ 16 ⌝ }
+{
+    let mut to = at;
+    let mut left = digits;
+    while left > 0 {
+        left -= 1;
+        to = put(out, to, glyph((x >> (4 * left)) % 16));
+    }
+    to
+}
+
+// Puts a whole number in decimal.
+pub fn put_whole(out: &mut [u8], at: usize, x: u64) -> usize {
+    let mut text = [0u8; 20];
+    let k = io::decimal(x, &mut text);
+    put_text(out, at, &text[..k])
+}
+
+// An f32's pattern; any NaN's is the same.
+fn f32_bits(x: f32) -> u64 {
+    if x != x {
+        return 0x7FC0_0000;
+    }
+    f32::to_bits(x) as u64
+}
+
+// An f64's pattern; any NaN's is the same.
+fn f64_bits(x: f64) -> u64 {
+    if x != x {
+        return 0x7FF8_0000_0000_0000;
+    }
+    f64::to_bits(x)
+}
+
+// Puts an f32 by its pattern.
+pub fn put_f32(out: &mut [u8], at: usize, x: f32) -> usize {
+    put_hex(out, at, f32_bits(x), 8)
+}
+
+// Puts an f64 by its pattern.
+pub fn put_f64(out: &mut [u8], at: usize, x: f64) -> usize {
+    put_hex(out, at, f64_bits(x), 16)
+}
+
+// Puts each number behind a blank.
+pub fn put_f32s(out: &mut [u8], at: usize, numbers: &[f32]) -> usize {
+    let mut to = at;
+    let mut i = 0;
+    while i < numbers.len() {
+        to = put(out, to, b' ');
+        to = put_f32(out, to, numbers[i]);
+        i += 1;
+    }
+    to
+}
+
+// The number at a place, 0 past the end.
+fn number_at(numbers: &[f32], at: usize) -> f32 {
+    if at < numbers.len() { numbers[at] } else { 0.0 }
+}
+
+// Puts the first so many numbers with blanks between them.
+pub fn put_row(out: &mut [u8], at: usize, numbers: &[f32], count: usize) -> usize {
+    let mut to = put_f32(out, at, number_at(numbers, 0));
+    let mut i = 1;
+    while i < count {
+        to = put(out, to, b' ');
+        to = put_f32(out, to, number_at(numbers, i));
+        i += 1;
+    }
+    to
+}

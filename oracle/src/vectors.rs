@@ -1,0 +1,320 @@
+//! The lines that need no tracker, by kind: patterns around every boundary, and seeded random ones.
+use crate::random::Random;
+use crate::runs;
+use crate::words::put_f64;
+
+/// Patterns around the class boundaries, without their sign.
+const EDGES: [u32; 27] = [
+    0x0000_0000,
+    0x0000_0001,
+    0x0000_0002,
+    0x0000_0003,
+    0x0040_0000,
+    0x007F_FFFE,
+    0x007F_FFFF,
+    0x0080_0000,
+    0x0080_0001,
+    0x00FF_FFFF,
+    0x0100_0000,
+    0x3EFF_FFFF,
+    0x3F00_0000,
+    0x3F00_0001,
+    0x3F7F_FFFF,
+    0x3F80_0000,
+    0x3F80_0001,
+    0x3FFF_FFFF,
+    0x4000_0000,
+    0x4B7F_FFFF,
+    0x7F7F_FFFE,
+    0x7F7F_FFFF,
+    0x7F80_0000,
+    0x7F80_0001,
+    0x7FBF_FFFF,
+    0x7FC0_0000,
+    0x7FFF_FFFF,
+];
+
+pub const KINDS: [&str; 7] = ["floats", "matrices", "lap", "boxes", "filter", "assoc", "states"];
+
+/// All lines of a kind.
+pub fn lines(kind: &str, seed: u64) -> Vec<u8> {
+    let mut v = Vectors { random: Random::of(seed), out: Vec::new() };
+    match kind {
+        "floats" => v.floats(),
+        "matrices" => v.matrices(),
+        "lap" => v.laps(),
+        "boxes" => v.boxes(),
+        "filter" => v.filters(),
+        "assoc" => v.assocs(),
+        "states" => v.states(),
+        _ => panic!("no such kind: {kind}; there are {KINDS:?}"),
+    }
+    v.out
+}
+
+struct Vectors {
+    random: Random,
+    out: Vec<u8>,
+}
+
+/// Both signs of the edges.
+fn edges() -> Vec<f32> {
+    EDGES.iter().flat_map(|&b| [f32::from_bits(b), f32::from_bits(b | 0x8000_0000)]).collect()
+}
+
+impl Vectors {
+    fn line(&mut self, words: &str, numbers: &[f32]) {
+        self.out.extend(words.as_bytes());
+        for &x in numbers {
+            self.put_raw(x);
+        }
+        self.out.push(b'\n');
+    }
+
+    /// A pattern as it is: a NaN keeps its bits.
+    fn put_raw(&mut self, x: f32) {
+        self.out.extend(format!(" {:08X}", x.to_bits()).as_bytes());
+    }
+
+    fn floats(&mut self) {
+        let mut roots = edges();
+        for root in (1..=64).chain([1000, 2047, 2048, 2049, 4094, 4095, 4096]) {
+            let square = ((root * root) as f32).to_bits();
+            roots.extend([square - 1, square, square + 1].map(f32::from_bits));
+        }
+        roots.extend((0..200).map(|_| f32::from_bits(self.random.bits() as u32 & 0x7FFF_FFFF)));
+        for x in roots {
+            self.line("sqrt", &[x]);
+        }
+        let mut angles = edges();
+        angles.extend((0..300).map(|_| self.random.between(-1.0, 1.0)));
+        angles.extend((0..50).map(|_| self.random.pattern()));
+        for x in angles {
+            self.line("acos", &[x]);
+        }
+        let mut any = edges();
+        any.extend((0..200).map(|_| self.random.pattern()));
+        for x in any {
+            self.line("widen", &[x]);
+            self.line("clamp", &[x]);
+        }
+        let some: Vec<f32> = edges().into_iter().step_by(3).collect();
+        for &a in &some {
+            for &b in &some {
+                self.line("max", &[a, b]);
+                self.line("min", &[a, b]);
+            }
+        }
+    }
+
+    /// A number of a kind: ordinary, whole, of any size, or one of the edges.
+    fn number(&mut self, kind: usize) -> f32 {
+        match kind {
+            0 => self.random.between(-100.0, 100.0),
+            1 => self.random.within(0, 8) as f32 - 4.0,
+            2 => self.random.between(-1.0, 1.0) * 10f32.powi(self.random.within(0, 60) as i32 - 30),
+            3 if self.random.once_in(4) => self.random.pattern(),
+            _ if self.random.once_in(3) => {
+                let edges = edges();
+                self.random.pick(&edges)
+            }
+            _ => self.random.between(-100.0, 100.0),
+        }
+    }
+
+    fn numbers(&mut self, count: usize, kind: usize) -> Vec<f32> {
+        (0..count).map(|_| self.number(kind)).collect()
+    }
+
+    fn matrices(&mut self) {
+        for (n, k, m) in [(7, 7, 1), (7, 7, 7), (7, 7, 4), (4, 7, 1), (4, 7, 4), (7, 4, 4), (7, 4, 1), (7, 4, 7)] {
+            for case in 0..15 {
+                let numbers = self.numbers(n * k + k * m, case % 5);
+                self.line(&format!("product {n} {k} {m}"), &numbers);
+            }
+        }
+        for case in 0..150 {
+            let mut s = self.numbers(16, case % 5);
+            if case % 3 == 0 {
+                (0..4).for_each(|i| s[5 * i] = 400.0 + s[5 * i].abs());
+            }
+            if case % 7 == 1 {
+                let unusable = [0.0, -0.0, f32::NAN, f32::from_bits(0xFFC0_0001)];
+                s[5 * (case / 7 % 4)] = self.random.pick(&unusable);
+            }
+            if case % 7 == 2 {
+                // The second row is a multiple of the first, so that a later pivot is 0.
+                (0..4).for_each(|j| s[4 + j] = 2.0 * s[j]);
+            }
+            self.line("inverse", &s);
+        }
+    }
+
+    fn lap_line(&mut self, n: usize, x: usize, y: usize, costs: &[f64]) {
+        self.out.extend(format!("lap {n} {x} {y}").as_bytes());
+        for &c in costs {
+            self.out.push(b' ');
+            put_f64(&mut self.out, c);
+        }
+        self.out.push(b'\n');
+    }
+
+    /// A matrix of a kind, n by n.
+    fn costs(&mut self, n: usize, kind: usize) -> Vec<f64> {
+        let r = &mut self.random;
+        let unit = |r: &mut Random| (r.bits() >> 11) as f64 / (1u64 << 53) as f64;
+        let rank: Vec<f64> = (0..2 * n).map(|_| r.within(1, 9) as f64).collect();
+        let special = [f64::NAN, f64::INFINITY, f64::NEG_INFINITY, 1e308, -1e308, -0.0, 0.0, 5e-324];
+        let bad_row = r.below(n);
+        let cost = |r: &mut Random, i: usize, j: usize| match kind {
+            0 => unit(r),
+            1 => -unit(r),
+            2 => r.below(3) as f64,
+            3 => r.below(2) as f64 - 0.0,
+            4 => 7.25,
+            5 => rank[i] * rank[n + j],
+            6 if i == bad_row => f64::NAN,
+            7 if r.once_in(6) => r.pick(&special),
+            8 => r.pick(&special),
+            9 => unit(r) * 2e6,
+            10 if j >= n - n / 3 => 1e5,
+            10 => -unit(r),
+            _ => (r.below(10) * r.below(10)) as f64,
+        };
+        (0..n * n).map(|q| cost(r, q / n, q % n)).collect()
+    }
+
+    fn laps(&mut self) {
+        const COSTS: usize = 12;
+        for n in (1..=64).filter(|n| n % 8 == 0 || *n < 24 || *n > 62) {
+            let cases = if n <= 6 {
+                3 * COSTS
+            } else if n <= 16 {
+                COSTS
+            } else {
+                3
+            };
+            for case in 0..cases {
+                let kind = if n <= 16 { case } else { case * 4 + n };
+                let costs = self.costs(n, kind % COSTS);
+                self.lap_line(n, n, n, &costs);
+            }
+        }
+        for (n, x, y, given) in
+            [(0, 0, 0, 0), (65, 65, 65, 4225), (2, 2, 2, 3), (2, 2, 2, 5), (2, 1, 2, 4), (2, 2, 3, 4)]
+        {
+            self.lap_line(n, x, y, &vec![1.0; given]);
+        }
+    }
+
+    /// Corners and whatever stands behind them: mostly a box, sometimes odd numbers.
+    fn corners(&mut self, case: usize) -> [f32; 4] {
+        if case % 4 == 3 {
+            return self.numbers(4, 4).try_into().unwrap();
+        }
+        let (x, y) = (self.number(0), self.number(0));
+        let (w, h) = (self.random.between(0.0, 80.0), self.random.between(0.0, 80.0));
+        let whole = |v: f32| if case % 4 == 1 { v.round() } else { v };
+        [whole(x), whole(y), whole(x) + whole(w), whole(y) + whole(h)]
+    }
+
+    fn boxes(&mut self) {
+        for case in 0..200 {
+            let (a, b) = (self.corners(case), self.corners(case));
+            self.line("measure", &a);
+            self.line("iou", &[a, b].concat());
+            self.line("dir", &[a, b].concat());
+            let (s, r) = (self.random.between(0.0, 4000.0), self.random.between(0.1, 3.0));
+            let given = if case % 4 == 3 { self.numbers(4, 3) } else { vec![a[0], a[1], s, r] };
+            self.line("box", &given);
+        }
+    }
+
+    /// Numbers of a filter as runs have them, or any.
+    fn filter(&mut self, case: usize) -> Vec<f32> {
+        if case % 4 == 3 {
+            return self.numbers(56, 4);
+        }
+        let mut x = self.numbers(7, 0);
+        x[2] = self.random.between(1.0, 5000.0);
+        x[3] = self.random.between(0.2, 3.0);
+        let half: Vec<f32> = self.numbers(49, 0).iter().map(|v| v / 100.0).collect();
+        let symmetric = |q: usize| half[q] + half[q % 7 * 7 + q / 7] + if q / 7 == q % 7 { 10.0 } else { 0.0 };
+        x.extend((0..49).map(symmetric));
+        x
+    }
+
+    fn filters(&mut self) {
+        for case in 0..60 {
+            let filter = self.filter(case);
+            self.line("predict", &filter);
+            let z = [self.number(0), self.number(0), self.random.between(1.0, 5000.0), self.random.between(0.2, 3.0)];
+            self.line("update", &[&z, &filter[..]].concat());
+        }
+        for case in 0..60 {
+            let gap = if case < 20 { case + 2 } else { self.random.pick(&[2, 3, 30, 31, 100, 255, 256]) };
+            let filter = self.filter(case);
+            let a = [filter[0], filter[1], filter[2], filter[3]];
+            let z = [a[0] + gap as f32, a[1] - 2.0 * gap as f32, a[2] * 1.25, a[3] * 0.75];
+            self.line(&format!("replay {gap}"), &[&a, &z, &filter[..]].concat());
+        }
+    }
+
+    fn assocs(&mut self) {
+        for case in 0..160 {
+            let counts = [0, 1, 2, 3, 5, 8, 13];
+            let (mut nd, mut nt) = (self.random.pick(&counts), self.random.pick(&counts));
+            if case % 40 == 39 {
+                (nd, nt) = self.random.pick(&[(64, 64), (64, 0), (0, 64), (64, 63), (33, 64)]);
+            }
+            let threshold = self.random.pick(&[0.3, 0.3, 0.3, 0.0, 1.0, 0.05]);
+            let inertia = self.random.pick(&[0.2, 0.2, 0.0, 1.0]);
+            let odd = case % 4 == 3;
+            let tracks: Vec<[f32; 4]> = (0..nt).map(|_| self.crowd(case)).collect();
+            let mut numbers = vec![threshold, inertia];
+            for d in 0..nd {
+                let near = tracks.get(d).copied().filter(|_| self.random.once_in(2));
+                let shift = self.random.between(-6.0, 6.0);
+                let corners = near.map_or_else(|| self.crowd(case), |b| b.map(|v| v + shift));
+                numbers.extend(corners);
+                let score = self.random.between(0.1, 1.0);
+                numbers.push(if odd { self.number(4) } else { score });
+            }
+            numbers.extend(tracks.concat());
+            for _ in 0..nt {
+                let known = !self.random.once_in(4);
+                let (dy, dx) = (self.random.between(-1.0, 1.0), self.random.between(-1.0, 1.0));
+                numbers.extend(if known { [dy, dx] } else { [0.0, 0.0] });
+            }
+            for _ in 0..nt {
+                let seen = !self.random.once_in(4);
+                let corners = self.crowd(case);
+                numbers.extend(if seen { corners } else { [-1.0; 4] });
+                numbers.push(if seen { 0.9 } else { -1.0 });
+            }
+            self.line(&format!("assoc {nd} {nt}"), &numbers);
+        }
+    }
+
+    /// States that runs come to, sound and unsound, loaded and shown.
+    fn states(&mut self) {
+        let loads = (0..).map(|_| runs::run(self.random.bits())).filter(|r| r.family == "loaded");
+        for run in loads.take(30).collect::<Vec<_>>() {
+            self.out.extend(run.head.join("\n").as_bytes());
+            self.out.extend(b"\nhash\nstate\n");
+        }
+    }
+
+    /// Boxes so close that many overlap; on whole numbers in some cases, so that overlaps tie.
+    fn crowd(&mut self, case: usize) -> [f32; 4] {
+        if case % 4 == 3 && self.random.once_in(3) {
+            return self.numbers(4, 4).try_into().unwrap();
+        }
+        let whole = case % 4 == 1;
+        let mut at = || if whole { self.random.within(0, 12) as f32 * 4.0 } else { self.random.between(0.0, 60.0) };
+        let (x, y) = (at(), at());
+        let (w, h) =
+            if whole { (16.0, 16.0) } else { (self.random.between(8.0, 30.0), self.random.between(8.0, 30.0)) };
+        [x, y, x + w, y + h]
+    }
+}
