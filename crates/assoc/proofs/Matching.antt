@@ -17,7 +17,7 @@ use Rattle.object.specs.Object.{cornersOf}
 use Rattle.lapjv_walk.specs.Marks.{free, isFree, index, markAt}
 use Rattle.lapjv_walk.specs.Ops.{floats}
 use Rattle.lapjv_walk.specs.Lapjv.{lapjv, OneToOne, Sits}
-use Rattle.lapjv_walk.proofs.Cases.{pos-inj, pos-free, and-right, never}
+use Rattle.lapjv_walk.proofs.Cases.{pos-inj, pos-free, and-left, and-right, never}
 use Rattle.lapjv_walk.proofs.Whole.{one-to-one}
 use Rattle.lists.specs.Lists.{pick, tab}
 use Rattle.lists.proofs.Tab.{length-tab, getD-tab}
@@ -33,10 +33,6 @@ use Rattle.assoc.proofs.AtOrAbove.{kept-pair}
 picked : (t : Bool) (m : ℤ) (j : ℕ) → pick t m free ≡ pos j → (t ≡ true) × (m ≡ pos j)
 picked true m j e = (refl, e)
 picked false m j e = absurd (pos-free j (sym e))
-
-and-left : (a b : Bool) → (a && b) ≡ true → a ≡ true
-and-left true b e = refl
-and-left false b e = never e
 
 -- the marks that a rule gives each object
 module _ (nd nt : ℕ) (f : ℕ → ℤ) where
@@ -75,7 +71,7 @@ module _ (nd nt : ℕ) (passes : Float → Bool) (m : Matrix) (marks : List ℤ)
 
 -- ---- the assignment
 
-larger-left : (a b : ℕ) → a ≤ larger a b
+pub larger-left : (a b : ℕ) → a ≤ larger a b
 larger-left a b = go (ltb a b) refl
   where
     go : (t : Bool) → ltb a b ≡ t → a ≤ pick t b a

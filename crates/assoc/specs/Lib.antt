@@ -3,3 +3,5 @@ pub mod Angle
 pub mod Matching
 pub mod Associate
 pub mod Paired
+pub mod Cells
+pub mod Split

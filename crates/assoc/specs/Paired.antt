@@ -9,6 +9,10 @@ use lib.ListN.{length}
 use Rattle.lapjv_walk.specs.Marks.{markAt}
 use Rattle.assoc.specs.Matching.{Matrix}
 
+-- each of the first nd marks is a track below nt, or free
+abbrev pub Below : ℕ → ℕ → List ℤ → Type 0
+Below nd nt marks = (i j : ℕ) → i < nd → markAt marks i ≡ pos j → j < nt
+
 -- each of nd objects has a mark: a track below nt, or free; no track is named twice
 pub record Paired (nd nt : ℕ) (marks : List ℤ) : Type 0 where
   pub len : length marks ≡ nd

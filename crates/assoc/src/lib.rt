@@ -1,5 +1,8 @@
 // Association of detections with tracks: assoc.rs, document 01, item 3, and the later rounds' matching of item 6.
 // Objects are lent as five numbers each (corners and score), boxes as four, directions as two (dy, dx).
+pub mod batch;
+pub mod lap;
+
 use object::Corners;
 use object::Detection;
 ghost use mathlib.Core.Path.{_≡_};
@@ -79,7 +82,7 @@ pub fn angle_term(inertia: f32, d: Detection, dy: f32, dx: f32, p: Detection) ->
 
 // ---- entries of the lent slices
 
-fn corners_at(cells: &[f32], j: usize) -> Corners
+pub fn corners_at(cells: &[f32], j: usize) -> Corners
     requires { ⌜ j * 4 + 4 ≤ length (now cells) ⌝ }
     ensures { λ r. ⌜ r ≡ cornersAt (now (cells .entry)) j ⌝ }
 {
@@ -92,7 +95,7 @@ fn corners_at(cells: &[f32], j: usize) -> Corners
     }
 }
 
-fn detection_at(cells: &[f32], i: usize) -> Detection
+pub fn detection_at(cells: &[f32], i: usize) -> Detection
     requires { ⌜ i * 5 + 5 ≤ length (now cells) ⌝ }
     ensures { λ r. ⌜ r ≡ detAt (now (cells .entry)) i ⌝ }
 {
@@ -123,4 +126,9 @@ fn overlap_at(dets: &[f32], boxes: &[f32], i: usize, j: usize) -> f32
     ensures { λ r. ⌜ r ≡ overlaps (detAt (now (dets .entry))) (cornersAt (now (boxes .entry))) i j ⌝ }
 {
     overlap(corners(detection_at(dets, i)), corners_at(boxes, j))
+}
+
+// For each object its track's index, or -1; cells past the objects are -1.
+pub struct Marks {
+    pub at: [i64; 64],
 }

@@ -12,7 +12,7 @@ use Rattle.lapjv_walk.specs.Holds.{Left}
 use Rattle.lapjv_walk.specs.Lapjv.{Ca, caDense, lapjv, twoPasses}
 use Rattle.lapjv_walk.specs.Ops.{Ops}
 use Rattle.lapjv_walk.proofs.Carr.{pass-keeps}
-use Rattle.lapjv_walk.proofs.Cases.{and-right, never}
+use Rattle.lapjv_walk.proofs.Cases.{and-left, and-right, never}
 use Rattle.lapjv_walk.proofs.Whole.{ccrt-left}
 use Rattle.lapjv.specs.Answer.{fits}
 
@@ -26,10 +26,6 @@ pub lapjv-is : (O : Ops) (n : ℕ) (cost : List (O .C)) (j k l : Kept (O .C)) (t
     → lapjv O n cost ≡ record { x = t .x; y = t .y }
 unfolding lapjv twoPasses
 lapjv-is O n cost j k l t a b c d = rw (a, b, c, d)
-
-and-left : (a b : Bool) → (a && b) ≡ true → a ≡ true
-and-left true b e = refl
-and-left false b e = never e
 
 pub record Sizes (n costs rows columns : ℕ) : Type 0 where
   pub some : 0 < n

@@ -27,6 +27,10 @@ not-both b e f = let q : _≡_ {A = Bool} true false = sym e ∙ f in let w : _�
 pub never : {X : Type 0} → false ≡ true → X
 never e = not-both false e refl
 
+pub and-left : (a b : Bool) → (a && b) ≡ true → a ≡ true
+and-left true b e = refl
+and-left false b e = never e
+
 pub and-right : (a b : Bool) → (a && b) ≡ true → b ≡ true
 and-right true b e = e
 and-right false b e = never e

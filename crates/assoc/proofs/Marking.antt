@@ -1,0 +1,104 @@
+-- Marks and costs as the loops of the assignment fill them. Assumes nothing.
+use mathlib.Core.Path.{_≡_, sym, ap, _∙_}
+use mathlib.Core.Bool.{Bool, true, false, not, _&&_}
+use mathlib.Core.List.{List, _++_, append-nil}
+use Prim.Native.Nat.{ℕ, _+_, _-_, _*_, _/_, _%_, _≤_, _<_}
+use native.Mathlib.Omega.{arith}
+use borrow.Author.Tests.{lt-ltb, le-ltb, eq-eqb}
+use lib.Dec.{ltb}
+use lib.IntN.{ℤ, pos}
+use lib.Ieee.{Float, binary64, neg, ofBits}
+use lib.ListN.{length, set, take, drop, replicate, drop-of-length-le}
+use lib.Seq.{getD-take}
+use Rattle.lists.specs.Lists.{pick, tab}
+use Rattle.lists.proofs.Tab.{length-tab, tab-ext}
+use Rattle.lapjv_walk.proofs.Cases.{pick-ind}
+use Rattle.lapjv_walk.specs.Marks.{free, isFree, index, markAt}
+use Rattle.lapjv_walk.specs.Ops.{floats}
+use Rattle.lapjv_walk.specs.Lapjv.{lapjv}
+use Rattle.lapjv.specs.Answer.{fits}
+use Rattle.assoc.proofs.Matching.{larger-left}
+use Rattle.assoc.proofs.Loops.{Filling, filling-none, filling-more, filling-done, marks-turn, marks-done}
+use Rattle.assoc.specs.Matching.{Matrix, larger, costsOf, within, assigned, keptWhere}
+
+-- ---- one mark
+
+-- a mark kept by a test, by the ways that the tests go
+pub kept-free : (m : ℤ) (b : Bool) → isFree m ≡ true → free ≡ pick (not (isFree m) && b) m free
+kept-free m b e = sym (ap (λ (q : Bool). pick (not q && b) m free) e)
+
+pub kept-by : (m : ℤ) (b q : Bool) → isFree m ≡ false → b ≡ q → pick q m free ≡ pick (not (isFree m) && b) m free
+kept-by m b q e h = sym (ap (λ (r : Bool). pick (not r && b) m free) e ∙ ap (λ (r : Bool). pick r m free) h)
+
+pub within-below : (nt : ℕ) (m : ℤ) (k : ℕ) → isFree m ≡ false → k ≡ index m → k < nt → m ≡ within nt m
+within-below nt m k e h l = kept-by m (ltb (index m) nt) true e (lt-ltb (index m) nt (omega (arith, h)))
+
+pub within-past : (nt : ℕ) (m : ℤ) (k : ℕ) → isFree m ≡ false → k ≡ index m → nt ≤ k → free ≡ within nt m
+within-past nt m k e h l = kept-by m (ltb (index m) nt) false e (le-ltb (index m) nt (omega (arith, h)))
+
+-- ---- the costs
+
+-- place q of a square of n rows
+abbrev pub costIn : ℕ → ℕ → ℕ → Matrix → ℕ → Float
+costIn nd nt n m q = pick (ltb (q / n) nd && ltb (q % n) nt) (neg (m (q / n) (q % n))) (ofBits binary64 0x40f8_6a00_0000_0000)
+
+-- the first q places of a list are costs
+pub record Costed (nd nt n : ℕ) (m : Matrix) (l out : List Float) (q : ℕ) : Type 0 where
+  pub most : n ≤ 64
+  pub room : n * n ≤ length l
+  pub filled : Filling (costIn nd nt n m) l (n * n) out q
+
+pub larger-most : (nd nt n : ℕ) → n ≡ larger nd nt → nd ≤ 64 → nt ≤ 64 → n ≤ 64
+larger-most nd nt n e h l = rw e (pick-ind (λ (k : ℕ). k ≤ 64) (ltb nd nt) nt nd l h)
+
+pub costed-none : (nd nt n : ℕ) (m : Matrix) (l : List Float) → n ≡ larger nd nt → nd ≤ 64 → nt ≤ 64 → larger nd nt * larger nd nt ≤ length l → Costed nd nt n m l l 0
+costed-none nd nt n m l e h k r = record { most = larger-most nd nt n e h k; room = rw (sym e) at r; filled = filling-none (costIn nd nt n m) l (n * n) }
+
+pub costed-more : (nd nt n : ℕ) (m : Matrix) (l out : List Float) (q : ℕ) (v : Float) → Costed nd nt n m l out q → q < n * n → v ≡ costIn nd nt n m q → Costed nd nt n m l (set out q v) (q + 1)
+costed-more nd nt n m l out q v p h e = record { most = p .most; room = p .room; filled = filling-more (costIn nd nt n m) l (n * n) out q v (p .filled) (p .room) h e }
+
+pub costed-all : (nd nt n : ℕ) (m : Matrix) (l out : List Float) (q : ℕ) → Costed nd nt n m l out q → n * n ≤ q → n ≡ larger nd nt → out ≡ costsOf nd nt m ++ drop (larger nd nt * larger nd nt) l
+unfolding costsOf neg ofBits
+costed-all nd nt n m l out q p h e = filling-done (costIn nd nt n m) l (n * n) out q (p .filled) h ∙ ap (λ (k : ℕ). tab (costIn nd nt k m) (k * k) ++ drop (k * k) l) e
+
+-- ---- the assignment
+
+fits-square : (n k x y : ℕ) → 0 < n → n ≤ 64 → k ≡ n * n → x ≡ n → y ≡ n → fits n k x y ≡ true
+fits-square n k x y a b c d e = rw (lt-ltb 0 n a, lt-ltb n 65 (omega arith), eq-eqb k (n * n) c, eq-eqb x n d, eq-eqb y n e)
+
+-- a square's costs in a list that has just their room
+costs-alone : (nd nt n : ℕ) (m : Matrix) (l out : List Float) → n ≡ larger nd nt → length l ≡ n * n → out ≡ costsOf nd nt m ++ drop (larger nd nt * larger nd nt) l → out ≡ costsOf nd nt m
+costs-alone nd nt n m l out e h p =
+    let r : length l ≤ larger nd nt * larger nd nt = rw (sym e) (omega (arith, h)) in
+    p ∙ (ap (λ (r : List Float). costsOf nd nt m ++ r) (drop-of-length-le l r) ∙ append-nil (costsOf nd nt m))
+
+length-costs : (nd nt n : ℕ) (m : Matrix) → n ≡ larger nd nt → length (costsOf nd nt m) ≡ n * n
+unfolding costsOf neg ofBits
+length-costs nd nt n m e = length-tab (costIn nd nt (larger nd nt) m) (larger nd nt * larger nd nt) ∙ ap (λ (k : ℕ). k * k) (sym e)
+
+-- from what the assignment answers on the costs; without rows there is no object
+pub assigned-is : (nd nt n : ℕ) (m : Matrix) (l cost : List Float) (x₀ y₀ x : List ℤ) → n ≡ larger nd nt → n ≤ 64 → length l ≡ n * n → cost ≡ costsOf nd nt m ++ drop (larger nd nt * larger nd nt) l → length x₀ ≡ n → length y₀ ≡ n
+    → x ≡ pick (fits n (length cost) (length x₀) (length y₀)) (lapjv floats n cost .x) x₀ → tab (λ i. within nt (markAt x i)) nd ≡ assigned nd nt m
+unfolding assigned
+assigned-is nd nt n m l₀ cost x₀ y₀ x e b k₀ c₀ p q a =
+    let c : cost ≡ costsOf nd nt m = costs-alone nd nt n m l₀ cost e k₀ c₀ in
+    let k : length cost ≡ n * n = ap length c ∙ length-costs nd nt n m e in
+    tab-ext (λ i. within nt (markAt x i)) (λ i. within nt (markAt (lapjv floats (larger nd nt) (costsOf nd nt m) .x) i)) nd
+    (λ i h.
+    let f : fits n (length cost) (length x₀) (length y₀) ≡ true = fits-square n (length cost) (length x₀) (length y₀) (omega (arith, e, larger-left nd nt, h)) b k p q in
+    let z : x ≡ lapjv floats (larger nd nt) (costsOf nd nt m) .x = a ∙ ap (λ (t : Bool). pick t (lapjv floats n cost .x) x₀) f ∙ ap (λ (r : ℕ). lapjv floats r cost .x) e ∙ ap (λ (l : List Float). lapjv floats (larger nd nt) l .x) c in
+    ap (λ (l : List ℤ). within nt (markAt l i)) z)
+
+-- ---- the pairs kept
+
+abbrev pub keptAt : (Float → Bool) → Matrix → List ℤ → ℕ → ℤ
+keptAt passes m marks i = pick (not (isFree (markAt marks i)) && passes (m i (index (markAt marks i)))) (markAt marks i) free
+
+-- one more turn of the loop, on marks of which the first nd are read
+pub kept-more : (passes : Float → Bool) (m : Matrix) (marks out : List ℤ) (nd i : ℕ) (v : ℤ) → out ≡ tab (keptAt passes m (take nd marks)) i ++ drop i (replicate 64 free) → i < nd → nd ≤ 64 → v ≡ keptAt passes m marks i
+    → set out i v ≡ tab (keptAt passes m (take nd marks)) (i + 1) ++ drop (i + 1) (replicate 64 free)
+kept-more passes m marks out nd i v p h l e = marks-turn (keptAt passes m (take nd marks)) out i v p (e ∙ sym (ap (λ (z : ℤ). pick (not (isFree z) && passes (m i (index z))) z free) (getD-take nd marks i (pos 0) h))) (omega arith)
+
+pub kept-all : (passes : Float → Bool) (m : Matrix) (marks out : List ℤ) (nd i : ℕ) → out ≡ tab (keptAt passes m (take nd marks)) i ++ drop i (replicate 64 free) → i ≡ nd → out ≡ keptWhere nd passes m (take nd marks) ++ replicate (64 - nd) free
+unfolding keptWhere
+kept-all passes m marks out nd i p e = marks-done (keptAt passes m (take nd marks)) out i nd p e

@@ -1,0 +1,17 @@
+-- `assoc::lap::associate` meets its contract. Assumes nothing.
+use Rattle.assoc.proofs.Loops.{few-cells}
+use borrow.Author.Needs.{needs}
+use Rattle.assoc.proofs.lap.associate.Statement.{statement}
+use Rattle.assoc.proofs.lap.associate.Tie as tie
+
+slice-aggregate-associate-in : tie.Need-slice-aggregate-associate-in
+slice-aggregate-associate-in c = search needs
+
+associate-in-requires : tie.Need-associate-in-requires
+associate-in-requires c κs = let s = c .before .before .before .before .before in (s .pre .0, s .pre .1, s .pre .2, s .pre .3, s .pre .4, s .pre .5, few-cells (s .args .nd) (s .args .nt) (s .pre .0) (s .pre .1))
+
+returns : tie.Need-returns
+returns c = search needs
+
+pub associate-spec : {M : Type 1} → statement M
+associate-spec = tie.close (tie.spec slice-aggregate-associate-in associate-in-requires returns)

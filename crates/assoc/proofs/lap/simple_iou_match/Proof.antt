@@ -1,0 +1,18 @@
+-- `assoc::lap::simple_iou_match` meets its contract. Assumes nothing.
+use Rattle.assoc.proofs.Loops.{few-cells}
+use borrow.Author.Needs.{needs}
+use Rattle.assoc.proofs.lap.simple_iou_match.Statement.{statement}
+use Rattle.assoc.proofs.lap.simple_iou_match.Tie as tie
+
+slice-aggregate-simple-iou-match-in : tie.Need-slice-aggregate-simple-iou-match-in
+slice-aggregate-simple-iou-match-in c = search needs
+
+simple-iou-match-in-requires : tie.Need-simple-iou-match-in-requires
+simple-iou-match-in-requires c κs = let s = c .before .before .before in (s .pre .0, s .pre .1, s .pre .2, s .pre .3, few-cells (s .args .nd) (s .args .nt) (s .pre .0) (s .pre .1))
+
+returns : tie.Need-returns
+returns c = search needs
+
+pub simple-iou-match-spec : {M : Type 1} → statement M
+simple-iou-match-spec =
+    tie.close (tie.spec slice-aggregate-simple-iou-match-in simple-iou-match-in-requires returns)
