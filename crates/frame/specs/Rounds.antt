@@ -10,6 +10,9 @@ use Rattle.lists.specs.Lists.{pick}
 use Rattle.object.specs.declared.Corners.{Corners}
 use Rattle.object.specs.declared.Detection.{Detection}
 use Rattle.assoc.specs.Angle.{Step}
+use Rattle.strack.specs.declared.LastBox.the-variants.{Unseen}
+use Rattle.strack.specs.declared.Kept.{Kept}
+use Rattle.strack.specs.Track.{seenOf}
 use Rattle.assoc.specs.Associate.{associate, reassociate}
 use Rattle.lapjv_walk.specs.Marks.{free}
 use Rattle.frame.specs.declared.Settings.{Settings}
@@ -103,19 +106,22 @@ abbrev pub placeOf : List ℕ → ℤ → ℤ
 placeOf js (negsuc n) = negsuc n
 placeOf js (pos t) = pos (getD js t 0)
 
--- the round on predicted boxes, with directions
-unfoldable pub firstRound : Settings → List View → List Obj → Work
-firstRound s vs os =
-    let marks = associate (s .«iou_threshold») (s .inertia) (length os) (length vs) (detOf os) (λ j. viewAt vs j .box) (λ j. viewAt vs j .direction) (λ j. viewAt vs j .previous) in
-    record { slots = seat 0 marks os (map emptySlot vs); left = leftBy marks os }
+-- the marks of the round on predicted boxes, with directions
+abbrev pub firstMarks : Settings → List View → List Obj → List ℤ
+firstMarks s vs os = associate (s .«iou_threshold») (s .inertia) (length os) (length vs) (detOf os) (λ j. viewAt vs j .box) (λ j. viewAt vs j .direction) (λ j. viewAt vs j .previous)
 
--- a later round: the objects and the slots without a grant, by overlap with one of the slot's boxes
-unfoldable pub laterRound : ℕ → (View → Corners) → Settings → List Slot → List Obj → Work
-laterRound k target s ss os =
+unfoldable pub firstRound : Settings → List View → List Obj → Work
+firstRound s vs os = record { slots = seat 0 (firstMarks s vs os) os (map emptySlot vs); left = leftBy (firstMarks s vs os) os }
+
+-- the marks of a later round: the objects and the slots without a grant, by overlap with one of the slot's boxes
+abbrev pub laterMarks : (View → Corners) → Settings → List Slot → List Obj → List ℤ
+laterMarks target s ss os =
     let js = openFrom 0 ss in
     let boxes = map (λ j. target (slotAt ss j .view)) js in
-    let marks = map (placeOf js) (reassociate (s .«iou_threshold») (length os) (length js) (detOf os) (λ j. getD boxes j noCorners)) in
-    record { slots = seat k marks os ss; left = leftBy marks os }
+    map (placeOf js) (reassociate (s .«iou_threshold») (length os) (length js) (detOf os) (λ j. getD boxes j noCorners))
+
+unfoldable pub laterRound : ℕ → (View → Corners) → Settings → List Slot → List Obj → Work
+laterRound k target s ss os = record { slots = seat k (laterMarks target s ss os) os ss; left = leftBy (laterMarks target s ss os) os }
 
 -- predicted boxes; spares if `use_byte`; last boxes
 unfoldable pub rounds : Settings → List View → List Obj → Work
@@ -123,3 +129,11 @@ rounds s vs os =
     let first = firstRound s vs (firstClass s os) in
     let byte = laterRound 1 (λ (v : View). v .box) s (first .slots) (pick (s .«use_byte») (spares s os) []) in
     laterRound 2 (λ (v : View). v .last) s (byte .slots) (first .left)
+
+-- ---- what a slot was granted, without its place and round: a box, or none
+abbrev pub keptOf : Option Grant → Kept
+keptOf none = record { at = Unseen }
+keptOf (some g) = record { at = seenOf (g .obj .det) }
+
+abbrev pub grantOf : Slot → Kept
+grantOf s = keptOf (s .got)

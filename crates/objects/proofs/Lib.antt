@@ -1,1 +1,3 @@
+pub mod Cells
 pub mod Pushing
+pub mod Reading

@@ -1,65 +1,27 @@
 -- A list of objects kept as numbers: one more object, and one more turn of a loop over the frame. Assumes nothing.
-use mathlib.Core.Path.{_≡_, refl, sym, ap, ap₂, _∙_}
+use mathlib.Core.Path.{_≡_, refl, sym, ap, _∙_}
 use mathlib.Core.Bool.{Bool, true, false}
-use mathlib.Core.List.{List, [], _∷_, _++_, append-assoc, append-nil}
-use Prim.Native.Nat.{ℕ, zero, suc, _+_, _-_, _*_, _≤_, _<_}
-use native.Mathlib.Nat.{zero-add, suc-add, add-zero}
+use mathlib.Core.List.{List, [], _∷_, _++_, append-nil}
+use Prim.Native.Nat.{ℕ, _+_, _≤_, _<_}
 use native.Mathlib.Numerals.{add-one}
 use native.Mathlib.Omega.{arith}
 use lib.Ieee.{Float}
-use lib.ListN.{length, set, replicate, length-append}
-use Rattle.ieee.specs.Ops.{f32}
+use lib.ListN.{length, length-append}
 use Rattle.lists.specs.Lists.{pick, put, tab, keep}
 use Rattle.lists.proofs.Tab.{length-tab}
 use Rattle.lists.proofs.Keep.{keep-append, keep-short}
 use Rattle.object.specs.declared.Detection.{Detection}
 use Rattle.frame.specs.Objects.{Obj, detectionAt, objectAt}
 use Rattle.objects.specs.declared.Dets.{Dets}
-use Rattle.objects.specs.Dets.{fiveOf, cellsOf, detsOf, pushed}
-
-pub cells-append : (xs ys : List Obj) → cellsOf (xs ++ ys) ≡ cellsOf xs ++ cellsOf ys
-cells-append [] ys = refl
-cells-append (x ∷ xs) ys = ap (λ (l : List Float). fiveOf (x .det) ++ l) (cells-append xs ys)
-
-pub length-cells : (os : List Obj) → length (cellsOf os) ≡ 5 * length os
-length-cells [] = refl
-length-cells (o ∷ os) = omega (arith, length-cells os)
-
-set-behind : {A : Type 0} (xs ys : List A) (i : ℕ) (a : A) → set (xs ++ ys) (length xs + i) a ≡ xs ++ set ys i a
-set-behind [] ys i a = ap (λ (k : ℕ). set ys k a) (zero-add i)
-set-behind (x ∷ xs) ys i a = rw (suc-add (length xs) i) (ap (λ l. x ∷ l) (set-behind xs ys i a))
-
--- five cells behind a list
-five-behind : (xs ys : List Float) (n : ℕ) (a b c d e : Float) → length xs ≡ n
-    → set (set (set (set (set (xs ++ ys) n a) (n + 1) b) (n + 2) c) (n + 3) d) (n + 4) e ≡ xs ++ set (set (set (set (set ys 0 a) 1 b) 2 c) 3 d) 4 e
-five-behind xs ys n a b c d e h =
-    let z : n ≡ length xs + 0 = omega (arith, h) in
-    ap (λ (k : ℕ). set (set (set (set (set (xs ++ ys) k a) (n + 1) b) (n + 2) c) (n + 3) d) (n + 4) e) z
-    ∙ rw (sym h, set-behind xs ys 0 a, set-behind xs (set ys 0 a) 1 b, set-behind xs (set (set ys 0 a) 1 b) 2 c, set-behind xs (set (set (set ys 0 a) 1 b) 2 c) 3 d, set-behind xs (set (set (set (set ys 0 a) 1 b) 2 c) 3 d) 4 e)
+use Rattle.objects.specs.Dets.{fiveOf, detsOf, pushed}
+use Rattle.objects.proofs.Cells.{flat-push}
 
 pub push-one : (os : List Obj) (o : Obj) → length os < 64 → pushed (detsOf os) (o .det) ≡ detsOf (os ++ (o ∷ []))
 unfolding pushed detsOf
-push-one os o h = λ i. record { n = count i; cells = cells i }
+push-one os o h = λ i. record { n = count i; cells = flat-push (λ (o : Obj). fiveOf (o .det)) 5 (λ o. refl) 320 os o (omega arith) i }
   where
     count : length os + 1 ≡ length (os ++ (o ∷ []))
     count = sym (length-append os (o ∷ []))
-
-    m : ℕ
-    m = 320 - 5 * (length os + 1)
-
-    room : 320 - 5 * length os ≡ suc (suc (suc (suc (suc m))))
-    room = omega arith
-
-    d : Detection
-    d = o .det
-
-    cells : set (set (set (set (set (cellsOf os ++ replicate (320 - 5 * length os) (f32 0)) (5 * length os) (d .x1)) (5 * length os + 1) (d .y1)) (5 * length os + 2) (d .x2)) (5 * length os + 3) (d .y2)) (5 * length os + 4) (d .score)
-        ≡ cellsOf (os ++ (o ∷ [])) ++ replicate (320 - 5 * length (os ++ (o ∷ []))) (f32 0)
-    cells =
-        five-behind (cellsOf os) (replicate (320 - 5 * length os) (f32 0)) (5 * length os) (d .x1) (d .y1) (d .x2) (d .y2) (d .score) (length-cells os)
-        ∙ ap (λ (k : ℕ). cellsOf os ++ set (set (set (set (set (replicate k (f32 0)) 0 (d .x1)) 1 (d .y1)) 2 (d .x2)) 3 (d .y2)) 4 (d .score)) room
-        ∙ sym (append-assoc (cellsOf os) (fiveOf d) (replicate m (f32 0)))
-        ∙ ap₂ (λ (l : List Float) (k : ℕ). l ++ replicate (320 - 5 * k) (f32 0)) (sym (cells-append os (o ∷ []))) count
 
 pub dets-count : (os : List Obj) → detsOf os .n ≡ length os
 unfolding detsOf

@@ -3,13 +3,14 @@ use frame::Settings;
 use object::Detection;
 ghost use mathlib.Core.Path.{_≡_};
 ghost use Prim.Native.Nat.{ℕ, _+_, _*_, _/_, _≤_, _<_};
+ghost use lib.Ieee.{nan};
 ghost use lib.ListN.{length};
 ghost use mathlib.Core.List.{[]};
 ghost use Rattle.lists.specs.Lists.{pick};
 ghost use Rattle.frame.specs.Objects.{detectionAt, objectsOf, firstScore, spareScore, firstClass, spares};
 ghost use Rattle.objects.specs.Dets.{detsOf, pushed};
 
-// Up to 64 detections, five numbers each: corners and score. Cells past them are 0.
+// Up to 64 detections, five numbers each: corners and score. Cells past them are NaN.
 pub struct Dets {
     pub n: usize,
     pub cells: [f32; 320],
@@ -49,7 +50,7 @@ pub fn push(d: Dets, o: Detection) -> Dets
 }
 
 // One detection more where the test passed.
-fn push_if(d: Dets, passes: bool, o: Detection) -> Dets
+pub fn push_if(d: Dets, passes: bool, o: Detection) -> Dets
     requires { ⌜ d .n < 64 ⌝ }
     ensures { λ r. ⌜ r ≡ pick passes (pushed d o) d ⌝ }
 {
@@ -59,14 +60,19 @@ fn push_if(d: Dets, passes: bool, o: Detection) -> Dets
     d
 }
 
+// What stands in a cell that holds no number.
+pub fn nan() -> f32
+    ensures { λ r. ⌜ r ≡ nan ⌝ }
+{
+    0.0 / 0.0
+}
+
 // No detections.
 pub fn none() -> Dets
     ensures { λ r. ⌜ r ≡ detsOf [] ⌝ }
 {
-    Dets {
-        n: 0,
-        cells: [0.0; 320],
-    }
+    let cells = [nan(); 320];
+    Dets { n: 0, cells }
 }
 
 fn is_first(s: Settings, score: f32) -> bool

@@ -24,8 +24,9 @@ use Rattle.frame.specs.Frame.{Call, Out, early}
 use Rattle.run.specs.Book.{Status, open′, broken, agedOut, Entry, Book, isOpen, live, closedBy, withStatus, breaks, breakEntry, isOld, ageEntry, viewOfEntry, nextLine, withLine, write, opened, entriesAfter, entered, roundsOf, enterAt, enter}
 use Rattle.run.specs.Claim.{timesWritten, boxesOf, Meets, Because, Grown}
 use Rattle.run.specs.Laws.{scoreAt, PlacedAt, Tidy, Laws}
-use Rattle.run.proofs.Seats.{Fairly, slot-weight, GotSlot}
-use Rattle.run.proofs.Rounds.{false-true, byteObjects, rounds-views, rounds-length, rounds-fairly, rounds-weight, rounds-left, rounds-from}
+use Rattle.frame.proofs.Seats.{rounds-length, Fairly, slot-weight, GotSlot}
+use Rattle.lapjv_walk.proofs.Cases.{never}
+use Rattle.run.proofs.Rounds.{byteObjects, rounds-views, rounds-fairly, rounds-weight, rounds-left, rounds-from}
 use Rattle.run.proofs.Sim.{live-young, write-length, opened-length, bookState}
 use Rattle.run.proofs.Rules.{Lined, lawful}
 use Rattle.run.proofs.Writing.{write-all, ids, ids-status, ids-write, ids-opened, hit, live-write-length, live-opened-length, grown-write, later-same}
@@ -87,7 +88,7 @@ module _ (s : Settings) (input : List Float) (p : ℕ) where
   not-first e = go (firstScore s (scoreAt input p)) refl
     where
       go : (t : Bool) → firstScore s (scoreAt input p) ≡ t → t ≡ false
-      go true q = false-true (sym (not-both q) ∙ e)
+      go true q = never (sym (not-both q) ∙ e)
       go false q = refl
 
   -- what is written of a place, where what went out and what is left add up
@@ -141,7 +142,7 @@ module _ (s : Settings) (fine : inRange s ≡ true) (b : Book) (c : Call) (ok : 
   after = entriesAfter s n es w
 
   slots-live : length (w .slots) ≡ length (live es)
-  slots-live = rounds-length s fine vs os ∙ length-map (live es) (viewOfEntry s)
+  slots-live = rounds-length s vs os ∙ length-map (live es) (viewOfEntry s)
 
   slots-views : map (λ (a : Slot). a .view) (w .slots) ≡ vs
   slots-views = rounds-views s fine vs os

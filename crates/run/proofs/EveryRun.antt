@@ -8,32 +8,109 @@ use native.Mathlib.Omega.{arith}
 use lib.Dec.{T, eqb, ltb, leb}
 use lib.Ieee.{Float}
 use lib.ListN.{length}
+use contract.Lifetimes.{Lfts}
+use denote.Ref.{RefT, now}
+use denote.Triple.Clauses.{AtExit}
+use borrow.Fn.Kinds.{Dens, endedOf}
+use Rattle.oc_sort_tracker.proofs.new.Kinds as new-call
+use Rattle.oc_sort_tracker.proofs.new.Reads as new
+use Rattle.oc_sort_tracker.proofs.with_settings.Kinds as with-call
+use Rattle.oc_sort_tracker.proofs.with_settings.Reads as with-settings
+use Rattle.oc_sort_tracker.proofs.update.Kinds as frame-call
+use Rattle.oc_sort_tracker.proofs.update.Reads as update
 use borrow.Author.Tests.{eqb-true, eqb-false, ne-eqb, leb-true, leb-false}
+use Rattle.lent.specs.declared.Told.{Told}
 use Rattle.lists.specs.Lists.{pick, sumOf, All}
 use Rattle.lists.proofs.All.{all-mem, map-map}
 use Rattle.object.specs.declared.Refusal.{Refusal}
-use Rattle.object.specs.declared.Refusal.the-variants.{UnsoundState, RaggedFrame, CrowdedFrame, ShortAnswer, RunOver, FullTable}
+use Rattle.object.specs.declared.Refusal.the-variants.{UnsoundState, BadSetting, RaggedFrame, CrowdedFrame, ShortAnswer, RunOver, FullTable}
 use Rattle.frame.specs.declared.Settings.{Settings}
 use Rattle.frame.specs.declared.Tracked.{Tracked}
 use Rattle.frame.specs.declared.Tracker.{Tracker}
 use Rattle.frame.specs.declared.Outcome.{Outcome}
 use Rattle.frame.specs.declared.Outcome.the-variants.{Accepted, Refused}
+use Rattle.frame.specs.declared.Answer.{Answer}
+use Rattle.frame.specs.declared.Made.{Made}
 use Rattle.frame.specs.State as State
 use Rattle.frame.specs.State.{inRange, stateOf, emptyTracker}
 use Rattle.frame.specs.Objects.{detectionAt, firstScore, spareScore}
 use Rattle.frame.specs.Frame.{Call, Reply, refused, reports, Out, early, boxesAfter, idsAfter, frameOf}
-use Rattle.frame.specs.Contract.{outcomeOf, reportsIn, Framed}
+use Rattle.frame.specs.Contract.{madeOf, outcomeOf, reportsIn, callOf, Framed}
+use Rattle.frame.proofs.Promises.{promised}
+use Rattle.oc_sort_tracker.specs.New.{defaults}
 use Rattle.run.specs.Book.{Stamped, Line, miss, box, Entry, Book, noneYet, live, breakEntry, trackOf, roundsOf, entered, enterAt, enter}
 use Rattle.run.specs.Claim.{inputOf, isAt, inLine, inEntry, timesWritten, boxesOf, boxesInFrame, Overlapped, Because, Grown}
 use Rattle.run.specs.Laws.{scoreAt, PlacedAt, Placed, Genuine, Tidy, Laws}
-use Rattle.run.specs.Run.{Seen, Run, made, called, callSeen, bookOf, bookReply, Gave, Answered, withInput, acceptedInputs, inputAt, Extended, Histories, Holds, EveryRun}
+use Rattle.run.specs.Lent as lent-call
+use Rattle.run.specs.Run.{Seen, seenOf, seenIn, Run, made-new, made-with, called, lent, Brought, broughtTo, callSeen, bookOf, bookReply, Gave, Answered, withInput, acceptedInputs, inputAt, Extended, Histories, Holds, EveryRun}
 use Rattle.run.proofs.Sim.{bookState, outOf, alike, live-state}
 use Rattle.run.proofs.Laws.{at-first}
 use Rattle.run.proofs.Accepted.{kept-laws, never-unsound, enter-grown}
 
-in-range : {s : Settings} {xs : List Seen} {t : Tracker} → Run s xs t → inRange s ≡ true
-in-range (made h) = h
-in-range (called r x f) = in-range r
+-- ---- what the contracts say
+
+accepted-refused : {A : Type 0} (r : Refusal) → _≡_ {A = Outcome} Accepted (Refused r) → A
+accepted-refused r e = absurd (let z : _≡_ {A = ℕ} 0 1 = cc in omega arith)
+
+-- accepted settings are in range, and the tracker is the empty one
+pub record Begun (s : Settings) (t : Tracker) : Type 0 where
+  pub fine : inRange s ≡ true
+  pub fresh : t ≡ emptyTracker s
+
+made-settings : (s : Settings) → madeOf s .tracker .settings ≡ s
+unfolding madeOf emptyTracker stateOf
+made-settings s = refl
+
+made-tracker : (s : Settings) → madeOf s .tracker ≡ emptyTracker s
+unfolding madeOf
+made-tracker s = refl
+
+made-accepted : (s : Settings) → madeOf s .outcome ≡ Accepted → inRange s ≡ true
+unfolding madeOf
+made-accepted s h = go (inRange s) h
+  where
+    go : (b : Bool) → pick b Accepted (Refused BadSetting) ≡ Accepted → b ≡ true
+    go true e = refl
+    go false e = accepted-refused BadSetting (sym e)
+
+begun : (q s : Settings) (m : Made) → m ≡ madeOf q → m .outcome ≡ Accepted → m .tracker .settings ≡ s → Begun s (m .tracker)
+begun q s m e h k =
+    let same : q ≡ s = sym (made-settings q) ∙ ap (λ (x : Made). x .tracker .settings) (sym e) ∙ k in
+    record {
+      fine = subst (λ (x : Settings). inRange x ≡ true) same (made-accepted q (ap (λ (x : Made). x .outcome) (sym e) ∙ h));
+      fresh = ap (λ (x : Made). x .tracker) e ∙ made-tracker q ∙ ap emptyTracker same;
+    }
+
+new-begun : (s : Settings) (κs : Lfts 0) (a : Dens κs new-call.ps) (m : Made) (e : AtExit (endedOf 0 new-call.ps new-call.r) κs) → new.Learnt κs a m e → m .outcome ≡ Accepted → m .tracker .settings ≡ s → Begun s (m .tracker)
+new-begun s κs a m e h o k = begun (defaults (a .0)) s m h o k
+
+with-begun : (s : Settings) (κs : Lfts 0) (a : Dens κs with-call.ps) (m : Made) (e : AtExit (endedOf 0 with-call.ps with-call.r) κs) → with-settings.Learnt κs a m e → m .outcome ≡ Accepted → m .tracker .settings ≡ s → Begun s (m .tracker)
+with-begun s κs a m e h o k = begun (a .0) s m h o k
+
+-- what a caller learns of a frame call is the record `Framed`
+abbrev FramedOf : Tracker → Seen → Type 0
+FramedOf t x = Framed t (x .input) (x .boxes) (x .ids) (x .answer) (x .boxes-left) (x .ids-left)
+
+framed : (t : Tracker) (κs : Lfts 3) (a : Dens κs frame-call.ps) (r : Answer) (e : AtExit (endedOf 3 frame-call.ps frame-call.r) κs) → update.Learnt κs a r e → a .0 ≡ t → FramedOf t (seenOf κs a r e)
+framed t κs a r e h same = subst (λ (u : Tracker). FramedOf u (seenOf κs a r e)) same h
+
+framed-in : (t : Tracker) (κs : Lfts 4) (a : lent-call.Dens κs) (r : Told) (e : lent-call.Exit κs) → lent-call.Learnt κs a r e → now (a .0) ≡ t → FramedOf t (seenIn κs a r e)
+framed-in t κs a r e h same = subst (λ (u : Tracker). FramedOf u (seenIn κs a r e)) same h
+
+-- a run by what its calls told, whichever they were
+data Told-by (s : Settings) : List Seen → Tracker → Type 0 where
+  making : {t : Tracker} → Begun s t → Told-by s [] t
+  frame : {xs : List Seen} {t : Tracker} → Told-by s xs t → (x : Seen) → FramedOf t x → Told-by s (x ∷ xs) (x .answer .tracker)
+
+told-by : {s : Settings} {xs : List Seen} {t : Tracker} → Run s xs t → Told-by s xs t
+told-by {s} (made-new κs a m e h o k) = making (new-begun s κs a m e h o k)
+told-by {s} (made-with κs a m e h o k) = making (with-begun s κs a m e h o k)
+told-by (called {xs} {t} r κs a x e h same) = frame (told-by r) (seenOf κs a x e) (framed t κs a x e h same)
+told-by (lent {xs} {t} r κs a x e h same) = frame (told-by r) (seenIn κs a x e) (framed-in t κs a x e h same)
+
+in-range : {s : Settings} {xs : List Seen} {t : Tracker} → Told-by s xs t → inRange s ≡ true
+in-range (making m) = m .fine
+in-range (frame r x f) = in-range r
 
 laws : (s : Settings) → inRange s ≡ true → (xs : List Seen) → Laws s (bookOf s xs)
 laws s fine [] = at-first s
@@ -55,7 +132,7 @@ module _ (s : Settings) (fine : inRange s ≡ true) (xs : List Seen) (x : Seen) 
   replied : frameOf t (callSeen x) .reply ≡ bookReply s xs x
   replied = ap (λ (o : Out Tracker). o .reply) stepped
 
-  pub gave : Framed t (x .input) (x .boxes) (x .ids) (x .answer) (x .boxes-left) (x .ids-left) → Gave x (bookReply s xs x)
+  pub gave : FramedOf t x → Gave x (bookReply s xs x)
   gave f = record {
     outcome = f .outcome ∙ ap outcomeOf replied;
     count = f .count ∙ ap (λ (r : Reply). length (reportsIn r)) replied;
@@ -63,16 +140,16 @@ module _ (s : Settings) (fine : inRange s ≡ true) (xs : List Seen) (x : Seen) 
     ids = f .ids-after ∙ ap (λ (r : Reply). idsAfter r (x .ids)) replied;
   }
 
-  pub state-next : Framed t (x .input) (x .boxes) (x .ids) (x .answer) (x .boxes-left) (x .ids-left) → x .answer .tracker ≡ bookState s (bookOf s (x ∷ xs))
+  pub state-next : FramedOf t x → x .answer .tracker ≡ bookState s (bookOf s (x ∷ xs))
   state-next f = f .next ∙ ap (λ (o : Out Tracker). o .next) stepped
 
-state : {s : Settings} {xs : List Seen} {t : Tracker} → Run s xs t → t ≡ bookState s (bookOf s xs)
-state {s} (made h) = fresh-state s
-state {s} (called {xs} {t} r x f) = state-next s (in-range r) xs x t (state r) f
+state : {s : Settings} {xs : List Seen} {t : Tracker} → Told-by s xs t → t ≡ bookState s (bookOf s xs)
+state {s} (making m) = m .fresh ∙ fresh-state s
+state {s} (frame {xs} {t} r x f) = state-next s (in-range r) xs x t (state r) f
 
-answered : {s : Settings} {xs : List Seen} {t : Tracker} → Run s xs t → Answered s xs
-answered (made h) = tt
-answered {s} (called {xs} {t} r x f) = (gave s (in-range r) xs x t (state r) f, answered r)
+answered : {s : Settings} {xs : List Seen} {t : Tracker} → Told-by s xs t → Answered s xs
+answered (making m) = tt
+answered {s} (frame {xs} {t} r x f) = (gave s (in-range r) xs x t (state r) f, answered r)
 
 -- ---- each call's part of the history
 
@@ -81,9 +158,6 @@ pub record Came (b : Book) (input : List Float) (o : Out Book) : Type 0 where
   pub refused-keeps : (r : Refusal) → outcomeOf (o .reply) ≡ Refused r → o .next ≡ b
   pub never-unsound : outcomeOf (o .reply) ≡ Refused UnsoundState → ⊥
   pub inputs : o .next .past ≡ withInput (outcomeOf (o .reply)) input (b .past)
-
-accepted-refused : {A : Type 0} (r : Refusal) → _≡_ {A = Outcome} Accepted (Refused r) → A
-accepted-refused r e = absurd (let z : _≡_ {A = ℕ} 0 1 = cc in omega arith)
 
 came-full : (s : Settings) (b : Book) (input : List Float) (es : List Entry) (full : Bool) → Came b input (entered s b input es (roundsOf s es input) full)
 came-full s b input es true = record { refused-keeps = λ r e. refl; never-unsound = λ e. let z : _≡_ {A = ℕ} 0 1 = cc in omega arith; inputs = refl }
@@ -111,9 +185,9 @@ came : (s : Settings) (b : Book) (c : Call) → Came b (c .input) (enter s b c)
 unfolding enter
 came s b c = came-at s b c (early (b .frames) c) refl
 
-histories : {s : Settings} {xs : List Seen} {t : Tracker} → Run s xs t → Histories s xs
-histories (made h) = tt
-histories {s} (called {xs} {t} r x f) =
+histories : {s : Settings} {xs : List Seen} {t : Tracker} → Told-by s xs t → Histories s xs
+histories (making m) = tt
+histories {s} (frame {xs} {t} r x f) =
     let g : Gave x (bookReply s xs x) = gave s (in-range r) xs x t (state r) f in
     let k : Came (bookOf s xs) (x .input) (enter s (bookOf s xs) (callSeen x)) = came s (bookOf s xs) (callSeen x) in (
       record {
@@ -124,9 +198,9 @@ histories {s} (called {xs} {t} r x f) =
       histories r,
     )
 
-inputs-alike : {s : Settings} {xs : List Seen} {t : Tracker} → Run s xs t → bookOf s xs .past ≡ acceptedInputs xs
-inputs-alike (made h) = refl
-inputs-alike {s} (called {xs} {t} r x f) =
+inputs-alike : {s : Settings} {xs : List Seen} {t : Tracker} → Told-by s xs t → bookOf s xs .past ≡ acceptedInputs xs
+inputs-alike (making m) = refl
+inputs-alike {s} (frame {xs} {t} r x f) =
     let g : Gave x (bookReply s xs x) = gave s (in-range r) xs x t (state r) f in
     came s (bookOf s xs) (callSeen x) .inputs ∙ ap₂ (λ (o : Outcome) (l : List (List Float)). withInput o (x .input) l) (sym (g .outcome)) (inputs-alike r)
 
@@ -217,8 +291,9 @@ ids-of : (s : Settings) (es : List Entry) → map (λ (u : Tracked). u .id) (map
 unfolding trackOf
 ids-of s es = map-map (λ (u : Tracked). u .id) (trackOf s) es
 
-pub every-run : EveryRun
-every-run s xs t r =
+of-run : (s : Settings) (xs : List Seen) (t : Tracker) → Run s xs t → Holds s xs t (bookOf s xs)
+of-run s xs t run =
+    let r : Told-by s xs t = told-by run in
     let b : Book = bookOf s xs in
     let fine : inRange s ≡ true = in-range r in
     let ok : Laws s b = laws s fine xs in
@@ -247,3 +322,60 @@ every-run s xs t r =
       settings = ap (λ (u : Tracker). u .settings) same ∙ settings-of s b;
       replays = held;
     }
+
+-- ---- runs exist
+
+abbrev noLifetimes : Lfts 3
+noLifetimes = ([], ([], ([], tt)))
+
+abbrev noLifetimes₄ : Lfts 4
+noLifetimes₄ = ([], noLifetimes)
+
+-- a reference to a value, wherever it points
+abbrev ref : {X : Type 0} → X → RefT X
+ref x = record { ptr = (0, 0); name = 0; now = x }
+
+module _ (t : Tracker) (b : Brought) where
+  abbrev reply : Reply
+  reply = frameOf t (callOf (b .input) (b .boxes) (b .ids)) .reply
+
+  abbrev answer : Answer
+  answer = record { outcome = outcomeOf reply; count = length (reportsIn reply); tracker = frameOf t (callOf (b .input) (b .boxes) (b .ids)) .next }
+
+  answer-to : Framed t (b .input) (b .boxes) (b .ids) answer (boxesAfter reply (b .boxes)) (idsAfter reply (b .ids))
+  answer-to = record { outcome = refl; count = refl; next = refl; boxes-after = refl; ids-after = refl; promises = promised t (callOf (b .input) (b .boxes) (b .ids)) }
+
+  -- the call, and the buffers as it leaves them
+  abbrev asked : Dens noLifetimes frame-call.ps
+  asked = (t, (ref (b .input), (ref (b .boxes), (ref (b .ids), tt))))
+
+  abbrev gone : AtExit (endedOf 3 frame-call.ps frame-call.r) noLifetimes
+  gone = (t, (ref (b .input), (ref (boxesAfter reply (b .boxes)), (ref (idsAfter reply (b .ids)), tt))))
+
+  -- the same in place
+  abbrev told : Told
+  told = record { outcome = answer .outcome; count = answer .count }
+
+  abbrev asked-in : lent-call.Dens noLifetimes₄
+  asked-in = (ref t, (ref (b .input), (ref (b .boxes), (ref (b .ids), tt))))
+
+  abbrev gone-in : lent-call.Exit noLifetimes₄
+  gone-in = (ref (answer .tracker), (ref (b .input), (ref (boxesAfter reply (b .boxes)), (ref (idsAfter reply (b .ids)), tt))))
+
+  once : {s : Settings} {xs : List Seen} → Run s xs t → (way : Bool) → (x : Seen) × Run s (x ∷ xs) (answer .tracker) × (broughtTo x ≡ record { in-place = way; input = b .input; boxes = b .boxes; ids = b .ids })
+  once r false = (seenOf noLifetimes asked answer gone, called r noLifetimes asked answer gone answer-to refl, refl)
+  once r true = (seenIn noLifetimes₄ asked-in told gone-in, lent r noLifetimes₄ asked-in told gone-in answer-to refl, refl)
+
+started : (s : Settings) → inRange s ≡ true → Run s [] (emptyTracker s)
+unfolding madeOf
+started s fine = subst (λ (u : Tracker). Run s [] u) (made-tracker s) (made-with tt (s, tt) (madeOf s) (s, tt) refl (ap (λ (b : Bool). pick b Accepted (Refused BadSetting)) fine) (made-settings s))
+
+exists : (s : Settings) → inRange s ≡ true → (bs : List Brought) → (xs : List Seen) × (t : Tracker) × Run s xs t × (map broughtTo xs ≡ bs)
+exists s fine [] = ([], emptyTracker s, started s fine, refl)
+exists s fine (b ∷ bs) =
+    let r = exists s fine bs in
+    let c = once (r .1) b (r .2) (b .in-place) in
+    (c .0 ∷ r .0, answer (r .1) b .tracker, c .1, ap₂ (λ (x : Brought) (l : List Brought). x ∷ l) (c .2) (r .3))
+
+pub every-run : EveryRun
+every-run = record { holds = of-run; exists = exists }

@@ -23,8 +23,8 @@ use Rattle.frame.specs.Frame.{Call, Out, firstOf, Test, early}
 use Rattle.run.specs.Book.{Stamped, Line, miss, box, Status, open′, broken, agedOut, Entry, Book, noneYet, isOpen, live, closedBy, withStatus, replayed, breaks, breakEntry, isOld, ageEntry, viewOfEntry, nextLine, withLine, write, opened, entriesAfter, entered, roundsOf, enterAt, enter}
 use Rattle.run.specs.Claim.{inputOf, isAt, inLine, inEntry, timesWritten, boxesOf, ofFrame, lineOfFrame, boxesInFrame, Meets, Overlapped, Because, Grown}
 use Rattle.run.specs.Laws.{scoreAt, PlacedAt, Placed, Genuine, Tidy, Laws}
-use Rattle.run.proofs.Seats.{Passed, Fairly, got-weight, slot-weight, Got, GotSlot}
-use Rattle.run.proofs.Rounds.{false-true, byteObjects, rounds-views, rounds-length, rounds-fairly, rounds-weight, rounds-left, rounds-from}
+use Rattle.frame.proofs.Seats.{Passed, Fairly, got-weight, slot-weight, Got, GotSlot}
+use Rattle.run.proofs.Rounds.{byteObjects, rounds-views, rounds-fairly, rounds-weight, rounds-left, rounds-from}
 use Rattle.run.proofs.Sim.{live-young, write-length, opened-length, bookState}
 use Rattle.run.proofs.Rules.{Lined, Young, lawful}
 use Rattle.run.proofs.Writing.{write-all, ids, ids-status, ids-write, ids-opened, hit, count-write, count-opened, live-write-length, live-opened-length, grown-write}

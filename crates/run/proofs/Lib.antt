@@ -1,4 +1,3 @@
-pub mod Seats
 pub mod Rounds
 pub mod Sim
 pub mod Rules

@@ -19,16 +19,16 @@ use Rattle.object.specs.declared.Corners.{Corners}
 use Rattle.object.specs.Object.{cornersOf}
 use Rattle.assoc.specs.Overlap.{overlapOf}
 use Rattle.lapjv_walk.specs.Marks.{markAt}
-use Rattle.lapjv_walk.proofs.Cases.{pos-inj, pos-free}
+use Rattle.lapjv_walk.proofs.Cases.{pos-inj, pos-free, never, and-left, and-right}
 use Rattle.assoc.specs.Associate.{overlaps, associate, reassociate}
 use Rattle.assoc.specs.Paired.{Paired, Fair}
 use Rattle.assoc.proofs.Matching.{associate-fair, reassociate-fair}
 use Rattle.frame.specs.declared.Settings.{Settings}
 use Rattle.frame.specs.State.{inRange, unitRange}
 use Rattle.frame.specs.Objects.{Obj, firstClass, spares, firstScore, spareScore}
-use Rattle.frame.specs.Rounds.{View, Grant, Slot, Work, emptySlot, noView, noCorners, noObj, slotAt, viewAt, detOf, unlessGranted, openFrom, placeOf, seat, leftBy, firstRound, laterRound, rounds}
+use Rattle.frame.specs.Rounds.{View, Grant, Slot, Work, emptySlot, noView, noCorners, noObj, slotAt, viewAt, detOf, unlessGranted, openFrom, placeOf, seat, leftBy, firstRound, laterRound, rounds, firstMarks}
 use Rattle.run.specs.Claim.{Meets, targetOf}
-use Rattle.run.proofs.Seats.{Unnamed, Seats, Fairly, seat-views, seat-length, seat-fairly, slot-weight, seat-weight, seat-keeps, Got, GotSlot, seat-from, left-from}
+use Rattle.frame.proofs.Seats.{Unnamed, Seats, Fairly, seat-views, seat-fairly, slot-weight, seat-weight, seat-keeps, Got, GotSlot, seat-from, left-from}
 
 -- ---- from marks by index to seats in turn
 
@@ -60,22 +60,11 @@ module _ (ok : Obj → View → Type 0) (ss : List Slot) where
 
 -- ---- settings in range
 
-pub and-left : (a b : Bool) → (a && b) ≡ true → a ≡ true
-and-left true b e = refl
-and-left false b e = e
-
-pub and-right : (a b : Bool) → (a && b) ≡ true → b ≡ true
-and-right true b e = e
-and-right false b e = absurd (let z : _≡_ {A = ℕ} 0 1 = cc in omega arith)
-
-pub false-true : {A : Type 0} → false ≡ true → A
-false-true e = absurd (let z : _≡_ {A = ℕ} 0 1 = cc in omega arith)
-
 no-nan-above : (x y : Float) → le x y ≡ true → isNan y ≡ false
 unfolding le isNan
-no-nan-above nan nan h = false-true h
-no-nan-above (inf s) nan h = false-true h
-no-nan-above (fin s m e) nan h = false-true h
+no-nan-above nan nan h = never h
+no-nan-above (inf s) nan h = never h
+no-nan-above (fin s m e) nan h = never h
 no-nan-above x (inf t) h = refl
 no-nan-above x (fin t n d) h = refl
 
@@ -131,17 +120,14 @@ abbrev pub thr : Settings → Float
 thr s = s .«iou_threshold»
 
 module _ (s : Settings) (fine : inRange s ≡ true) (vs : List View) (os : List Obj) where
-  abbrev firstMarks : List ℤ
-  firstMarks = associate (thr s) (s .inertia) (length os) (length vs) (detOf os) (λ j. viewAt vs j .box) (λ j. viewAt vs j .direction) (λ j. viewAt vs j .previous)
-
   empty-at : (t : ℕ) → slotAt (map emptySlot vs) t ≡ emptySlot (viewAt vs t)
   empty-at t = List·getD-map emptySlot vs t noView
 
-  pub first-seats : Seats (Meets s 0) firstMarks os (map emptySlot vs)
+  pub first-seats : Seats (Meets s 0) (firstMarks s vs os) os (map emptySlot vs)
   unfolding Meets
   first-seats =
-      let f : Fair (length os) (length vs) (thr s) (overlaps (detOf os) (λ j. viewAt vs j .box)) firstMarks = associate-fair (thr s) (s .inertia) (length os) (length vs) (detOf os) (λ j. viewAt vs j .box) (λ j. viewAt vs j .direction) (λ j. viewAt vs j .previous) (threshold-number s fine) in
-      seats-of (Meets s 0) (map emptySlot vs) firstMarks os (f .paired .len)
+      let f : Fair (length os) (length vs) (thr s) (overlaps (detOf os) (λ j. viewAt vs j .box)) (firstMarks s vs os) = associate-fair (thr s) (s .inertia) (length os) (length vs) (detOf os) (λ j. viewAt vs j .box) (λ j. viewAt vs j .direction) (λ j. viewAt vs j .previous) (threshold-number s fine) in
+      seats-of (Meets s 0) (map emptySlot vs) (firstMarks s vs os) os (f .paired .len)
       (λ i t h e. (rw (length-map vs emptySlot) (f .paired .below i t h e), ap (λ (x : Slot). x .got) (empty-at t), subst (λ (x : Slot). Meets s 0 (getD os i noObj) (x .view)) (sym (empty-at t)) (f .meets i t h e)))
       (f .paired .apart)
 
@@ -210,7 +196,7 @@ module _ (s : Settings) (fine : inRange s ≡ true) (vs : List View) (os : List 
   r₁ = laterRound 1 (λ (v : View). v .box) s (r₀ .slots) (byteObjects s os)
 
   abbrev m₀ : List ℤ
-  m₀ = firstMarks s fine vs (firstClass s os)
+  m₀ = firstMarks s vs (firstClass s os)
 
   abbrev m₁ : List ℤ
   m₁ = map (placeOf (openFrom 0 (r₀ .slots))) (openMarks s 1 (r₀ .slots) (byteObjects s os))
@@ -225,10 +211,6 @@ module _ (s : Settings) (fine : inRange s ≡ true) (vs : List View) (os : List 
   pub rounds-views : map (λ (a : Slot). a .view) (rounds s vs os .slots) ≡ vs
   unfolding rounds firstRound laterRound
   rounds-views = seat-views 2 m₂ (r₀ .left) (r₁ .slots) ∙ seat-views 1 m₁ (byteObjects s os) (r₀ .slots) ∙ seat-views 0 m₀ (firstClass s os) (map emptySlot vs) ∙ empty-views vs
-
-  pub rounds-length : length (rounds s vs os .slots) ≡ length vs
-  unfolding rounds firstRound laterRound
-  rounds-length = seat-length 2 m₂ (r₀ .left) (r₁ .slots) ∙ seat-length 1 m₁ (byteObjects s os) (r₀ .slots) ∙ seat-length 0 m₀ (firstClass s os) (map emptySlot vs) ∙ length-map vs emptySlot
 
   empty-fairly : (us : List View) → All (Fairly (Meets s)) (map emptySlot us)
   empty-fairly [] = tt

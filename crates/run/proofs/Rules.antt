@@ -20,7 +20,7 @@ use Rattle.frame.specs.declared.Tracked.{Tracked}
 use Rattle.frame.specs.State as State
 use Rattle.frame.specs.State.{inRange, blank, stateOf, rising, trackRules, stateRules}
 use Rattle.run.specs.Book.{Entry, Book, Status, open′, broken, agedOut, isOpen, live, withStatus, lineOf, replayed, trackOf}
-use Rattle.run.proofs.Rounds.{false-true}
+use Rattle.lapjv_walk.proofs.Cases.{never}
 use Rattle.run.proofs.Sim.{bookState, eight}
 
 -- a replay is as old as it has lines
@@ -68,7 +68,7 @@ rising-less i m (t ∷ ts) h = go (leb (suc i) (t .id)) refl h
   where
     go : (q : Bool) → leb (suc i) (t .id) ≡ q → (q && ltb (t .id) m && rising (suc (t .id)) m ts) ≡ true → (leb i (t .id) && ltb (t .id) m && rising (suc (t .id)) m ts) ≡ true
     go true e r = let l : suc i ≤ t .id = leb-true (suc i) (t .id) e in rw (le-leb i (t .id) (omega arith)) r
-    go false e r = false-true r
+    go false e r = never r
 
 module _ (s : Settings) where
   id-alike : (e : Entry) → trackOf s e .id ≡ e .id

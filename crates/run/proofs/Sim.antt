@@ -36,7 +36,8 @@ use Rattle.frame.specs.Objects.{Obj, objectsOf}
 use Rattle.frame.specs.Rounds.{View, Grant, Slot, Work, rounds}
 use Rattle.frame.specs.Frame.{Call, Reply, refused, reports, Out, early, hasNan, detectionOr, stepOr, viewOf, trackedView, withTrack, predictTracked, unbroken, predictedTracks, give, giveAll, births, isReported, reportOf, snocIf, reportsOf, isYoung, isFull, settled, acceptedFrame, frameAt, frameOf}
 use Rattle.run.specs.Book.{Stamped, Line, miss, box, Status, open′, broken, agedOut, Entry, Book, noneYet, lineOf, replayed, foreseen, trackOf, isOpen, live, closedBy, withStatus, breaks, breakEntry, isOld, ageEntry, viewOfEntry, nextLine, withLine, written, write, opened, entriesAfter, entered, roundsOf, enterAt, enter}
-use Rattle.run.proofs.Rounds.{rounds-length, and-left, and-right}
+use Rattle.frame.proofs.Seats.{rounds-length}
+use Rattle.lapjv_walk.proofs.Cases.{and-right}
 
 -- ---- one entry
 
@@ -270,7 +271,7 @@ module _ (s : Settings) (fine : inRange s ≡ true) (b : Book) (c : Call) where
       accepted-over
       ∙ ap (λ (n : ℕ). settled (bookState s b) (map (foretold s fine) (live es′)) w (ltb 64 (n + length (w .left)))) l
       ∙ settled-is s fine b (c .input) es′ w (ltb 64 (length (live es′) + length (w .left)))
-      (rounds-length s fine (map (viewOfEntry s) (live es′)) (objectsOf (c .input)) ∙ length-map (live es′) (viewOfEntry s)) (length-map (b .entries) (breakEntry s))
+      (rounds-length s (map (viewOfEntry s) (live es′)) (objectsOf (c .input)) ∙ length-map (live es′) (viewOfEntry s)) (length-map (b .entries) (breakEntry s))
 
   frames-alike : bookState s b .frames ≡ b .frames
   unfolding bookState stateOf

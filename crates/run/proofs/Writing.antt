@@ -14,7 +14,7 @@ use Rattle.frame.specs.Objects.{Obj}
 use Rattle.frame.specs.Rounds.{View, Grant, Slot}
 use Rattle.run.specs.Book.{Stamped, Line, miss, box, Status, open′, broken, agedOut, Entry, isOpen, live, closedBy, withStatus, breaks, breakEntry, isOld, ageEntry, viewOfEntry, nextLine, withLine, written, write, opened}
 use Rattle.run.specs.Claim.{isAt, inLine, inEntry, Later, Grown}
-use Rattle.run.proofs.Seats.{got-weight, slot-weight}
+use Rattle.frame.proofs.Seats.{got-weight, slot-weight}
 
 -- ---- a property of each entry, where each open entry gets the slot with its view
 

@@ -1,4 +1,5 @@
 pub mod Book
 pub mod Claim
 pub mod Laws
+pub mod Lent
 pub mod Run

@@ -6,6 +6,17 @@ use Prim.Native.Nat.{ℕ, zero, suc, _+_, _/_, _≤_, _<_}
 use lib.Dec.{T}
 use lib.Ieee.{Float}
 use lib.ListN.{length}
+use contract.Lifetimes.{Lfts}
+use denote.Ref.{now}
+use denote.Triple.Clauses.{AtExit}
+use borrow.Fn.Kinds.{Dens, endedOf}
+use Rattle.oc_sort_tracker.proofs.new.Kinds as new-call
+use Rattle.oc_sort_tracker.proofs.new.Reads as new
+use Rattle.oc_sort_tracker.proofs.with_settings.Kinds as with-call
+use Rattle.oc_sort_tracker.proofs.with_settings.Reads as with-settings
+use Rattle.oc_sort_tracker.proofs.update.Kinds as frame-call
+use Rattle.oc_sort_tracker.proofs.update.Reads as update
+use Rattle.lent.specs.declared.Told.{Told}
 use Rattle.lists.specs.Lists.{upFrom}
 use Rattle.object.specs.declared.Refusal.{Refusal}
 use Rattle.object.specs.declared.Refusal.the-variants.{UnsoundState}
@@ -15,19 +26,22 @@ use Rattle.frame.specs.declared.Tracker.{Tracker}
 use Rattle.frame.specs.declared.Outcome.{Outcome}
 use Rattle.frame.specs.declared.Outcome.the-variants.{Accepted, Refused}
 use Rattle.frame.specs.declared.Answer.{Answer}
+use Rattle.frame.specs.declared.Made.{Made}
 use Rattle.frame.specs.State as State
-use Rattle.frame.specs.State.{inRange, emptyTracker}
+use Rattle.frame.specs.State.{inRange}
 use Rattle.frame.specs.Objects.{detectionAt, firstScore, spareScore}
 use Rattle.frame.specs.Frame.{Call, Reply, refused, reports, boxesAfter, idsAfter}
-use Rattle.frame.specs.Contract.{outcomeOf, reportsIn, callOf, Framed}
+use Rattle.frame.specs.Contract.{outcomeOf, reportsIn, callOf}
 use Rattle.run.specs.Book.{Stamped, Status, Entry, Book, noneYet, live, trackOf, enter}
 use Rattle.run.specs.Claim.{inputOf, timesWritten, boxesOf, boxesInFrame, Overlapped, Because, Grown}
 use Rattle.run.specs.Laws.{scoreAt}
+use Rattle.run.specs.Lent as lent-call
 
 -- ---- runs
 
--- a call as its caller sees it: what went in, and what came out
+-- a call as its caller sees it: whether it was in place, what went in, and what came out
 pub record Seen : Type 0 where
+  pub in-place : Bool
   pub input : List Float
   pub boxes : List Float
   pub ids : List ℕ
@@ -35,10 +49,37 @@ pub record Seen : Type 0 where
   pub boxes-left : List Float
   pub ids-left : List ℕ
 
--- A run, newest call first. It starts from the tracker as made with accepted settings; each call gets the tracker that the last one returned.
+-- what the contract of `update` says of one call: what went in as a, what came back as r, and the arguments as the call left them, e
+abbrev pub seenOf : (κs : Lfts 3) → Dens κs frame-call.ps → Answer → AtExit (endedOf 3 frame-call.ps frame-call.r) κs → Seen
+seenOf κs a r e = record {
+  in-place = false;
+  input = now (a .1 .0);
+  boxes = now (a .1 .1 .0);
+  ids = now (a .1 .1 .1 .0);
+  answer = r;
+  boxes-left = now (e .1 .1 .0);
+  ids-left = now (e .1 .1 .1 .0);
+}
+
+-- the same of `update_in_place`: the answer's tracker is the one that the call left
+abbrev pub seenIn : (κs : Lfts 4) → lent-call.Dens κs → Told → lent-call.Exit κs → Seen
+seenIn κs a r e = record {
+  in-place = true;
+  input = now (a .1 .0);
+  boxes = now (a .1 .1 .0);
+  ids = now (a .1 .1 .1 .0);
+  answer = record { outcome = r .outcome; count = r .count; tracker = now (e .0) };
+  boxes-left = now (e .1 .1 .0);
+  ids-left = now (e .1 .1 .1 .0);
+}
+
+-- A run, newest call first, by the functions' own contracts: `Learnt` is what a caller learns of a call. It starts from what either making call returned with
+-- its acceptance; each call, by value or in place, gets the tracker that the last one returned or left.
 pub data Run (s : Settings) : List Seen → Tracker → Type 0 where
-  made : inRange s ≡ true → Run s [] (emptyTracker s)
-  called : {xs : List Seen} {t : Tracker} → Run s xs t → (x : Seen) → Framed t (x .input) (x .boxes) (x .ids) (x .answer) (x .boxes-left) (x .ids-left) → Run s (x ∷ xs) (x .answer .tracker)
+  made-new : (κs : Lfts 0) (a : Dens κs new-call.ps) (m : Made) (e : AtExit (endedOf 0 new-call.ps new-call.r) κs) → new.Learnt κs a m e → m .outcome ≡ Accepted → m .tracker .settings ≡ s → Run s [] (m .tracker)
+  made-with : (κs : Lfts 0) (a : Dens κs with-call.ps) (m : Made) (e : AtExit (endedOf 0 with-call.ps with-call.r) κs) → with-settings.Learnt κs a m e → m .outcome ≡ Accepted → m .tracker .settings ≡ s → Run s [] (m .tracker)
+  called : {xs : List Seen} {t : Tracker} → Run s xs t → (κs : Lfts 3) (a : Dens κs frame-call.ps) (r : Answer) (e : AtExit (endedOf 3 frame-call.ps frame-call.r) κs) → update.Learnt κs a r e → a .0 ≡ t → Run s (seenOf κs a r e ∷ xs) (r .tracker)
+  lent : {xs : List Seen} {t : Tracker} → Run s xs t → (κs : Lfts 4) (a : lent-call.Dens κs) (r : Told) (e : lent-call.Exit κs) → lent-call.Learnt κs a r e → now (a .0) ≡ t → Run s (seenIn κs a r e ∷ xs) (now (e .0))
 
 -- ---- the book of the run, from the settings, the inputs and the buffers' lengths alone
 
@@ -123,5 +164,19 @@ pub record Holds (s : Settings) (xs : List Seen) (t : Tracker) (b : Book) : Type
   -- 'every live track holds, beside its id, exactly what replaying its own birth box, later boxes and misses alone under the run's settings, from a history that forgets nothing, would give'
   pub replays : State.live t ≡ map (trackOf s) (live (b .entries))
 
-abbrev pub EveryRun : Type 0
-EveryRun = (s : Settings) (xs : List Seen) (t : Tracker) → Run s xs t → Holds s xs t (bookOf s xs)
+-- ---- the claim is not empty
+
+-- which call a caller makes, and what it brings
+pub record Brought : Type 0 where
+  pub in-place : Bool
+  pub input : List Float
+  pub boxes : List Float
+  pub ids : List ℕ
+
+abbrev pub broughtTo : Seen → Brought
+broughtTo x = record { in-place = x .in-place; input = x .input; boxes = x .boxes; ids = x .ids }
+
+-- Demand 3, of every run; and runs exist for all accepted settings and every list of inputs and buffers, each call by value or in place.
+pub record EveryRun : Type 0 where
+  pub holds : (s : Settings) (xs : List Seen) (t : Tracker) → Run s xs t → Holds s xs t (bookOf s xs)
+  pub exists : (s : Settings) → inRange s ≡ true → (bs : List Brought) → (xs : List Seen) × (t : Tracker) × Run s xs t × (map broughtTo xs ≡ bs)

@@ -1,6 +1,6 @@
 -- `objects::push` meets its contract. Assumes nothing.
 use borrow.Author.Needs.{needs}
-use mathlib.Core.Path.{refl}
+use native.Mathlib.Numerals.{unary-clauses}
 use Rattle.objects.specs.Dets.{pushed}
 use Rattle.objects.proofs.push.Statement.{statement}
 use Rattle.objects.proofs.push.Tie as tie
@@ -55,7 +55,7 @@ add-out-5 c = search needs
 
 returns : tie.Need-returns
 unfolding pushed
-returns c = refl
+returns c = simp unary-clauses
 
 pub push-spec : {M : Type 1} → statement M
 push-spec =

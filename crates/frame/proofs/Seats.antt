@@ -8,12 +8,14 @@ use Prim.Native.Nat.{ℕ, zero, suc, _+_, _≤_, _<_}
 use native.Mathlib.Nat.{not-suc-le-zero, le-of-suc-le-suc}
 use native.Mathlib.Omega.{arith}
 use lib.IntN.{ℤ, pos, negsuc}
-use lib.ListN.{length, getD, set, length-set}
+use lib.ListN.{length, getD, set, length-set, length-map}
 use lib.Seq.{getD-set-other, map-set-same}
-use Rattle.lists.specs.Lists.{sumOf, All}
+use Rattle.lists.specs.Lists.{pick, sumOf, All}
 use Rattle.lists.proofs.All.{sum-set}
-use Rattle.frame.specs.Objects.{Obj}
-use Rattle.frame.specs.Rounds.{View, Grant, Slot, noSlot, slotAt, grantTo, seat, unlessTaken, leftBy}
+use Rattle.object.specs.declared.Corners.{Corners}
+use Rattle.frame.specs.declared.Settings.{Settings}
+use Rattle.frame.specs.Objects.{Obj, firstClass, spares}
+use Rattle.frame.specs.Rounds.{View, Grant, Slot, Work, emptySlot, firstMarks, firstRound, laterMarks, laterRound, rounds, noSlot, slotAt, grantTo, seat, unlessTaken, leftBy}
 
 -- t is named by none of the marks
 abbrev pub Unnamed : ℕ → List ℤ → Type 0
@@ -49,7 +51,7 @@ seat-views k [] os ss = refl
 seat-views k (m ∷ ms) [] ss = refl
 seat-views k (m ∷ ms) (o ∷ os) ss = seat-views k ms os (grantTo k m o ss) ∙ granted-views k m o ss
 
-granted-length : (k : ℕ) (m : ℤ) (o : Obj) (ss : List Slot) → length (grantTo k m o ss) ≡ length ss
+pub granted-length : (k : ℕ) (m : ℤ) (o : Obj) (ss : List Slot) → length (grantTo k m o ss) ≡ length ss
 granted-length k (negsuc n) o ss = refl
 granted-length k (pos t) o ss = length-set ss t _
 
@@ -57,6 +59,21 @@ pub seat-length : (k : ℕ) (ms : List ℤ) (os : List Obj) (ss : List Slot) →
 seat-length k [] os ss = refl
 seat-length k (m ∷ ms) [] ss = refl
 seat-length k (m ∷ ms) (o ∷ os) ss = seat-length k ms os (grantTo k m o ss) ∙ granted-length k m o ss
+
+first-length : (s : Settings) (vs : List View) (os : List Obj) → length (firstRound s vs os .slots) ≡ length vs
+unfolding firstRound
+first-length s vs os = seat-length 0 (firstMarks s vs os) os (map emptySlot vs) ∙ length-map vs emptySlot
+
+later-length : (k : ℕ) (target : View → Corners) (s : Settings) (ss : List Slot) (os : List Obj) → length (laterRound k target s ss os .slots) ≡ length ss
+unfolding laterRound
+later-length k target s ss os = seat-length k (laterMarks target s ss os) os ss
+
+pub rounds-length : (s : Settings) (vs : List View) (os : List Obj) → length (rounds s vs os .slots) ≡ length vs
+unfolding rounds
+rounds-length s vs os =
+    let w₀ = firstRound s vs (firstClass s os) in
+    let w₁ = laterRound 1 (λ (v : View). v .box) s (w₀ .slots) (pick (s .«use_byte») (spares s os) []) in
+    later-length 2 (λ (v : View). v .last) s (w₁ .slots) (w₀ .left) ∙ later-length 1 (λ (v : View). v .box) s (w₀ .slots) (pick (s .«use_byte») (spares s os) []) ∙ first-length s vs (firstClass s os)
 
 -- ---- each grant passed the test of its round
 

@@ -1,0 +1,4 @@
+pub mod Known
+pub mod Rules
+pub mod Promises
+pub mod Seats

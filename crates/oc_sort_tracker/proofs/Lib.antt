@@ -1,0 +1,5 @@
+pub mod Left
+pub mod Ready
+pub mod Tables
+pub mod Agree
+pub mod Framing

@@ -1,0 +1,104 @@
+-- A sound state and a call that no early row refuses give the last part of a frame what it needs. Assumes nothing.
+use mathlib.Core.Path.{_≡_, refl, sym, ap, subst, _∙_}
+use mathlib.Core.Bool.{Bool, true, false, not, _&&_, _||_}
+use mathlib.Core.Option.{Option, none, some}
+use mathlib.Core.List.{List, [], _∷_, _++_, map}
+use Prim.Native.Nat.{ℕ, zero, suc, _+_, _*_, _%_, _≤_, _<_}
+use native.Mathlib.Omega.{arith}
+use lib.Dec.{leb, ltb, eqb}
+use lib.ListN.{length}
+use borrow.Author.Tests.{ltb-true, ltb-false, leb-true, leb-false, lt-ltb}
+use Rattle.lists.specs.Lists.{pick, put, keep, every}
+use Rattle.object.specs.declared.Detection.{Detection}
+use Rattle.object.specs.declared.Refusal.{Refusal}
+use Rattle.object.specs.declared.Refusal.the-variants.{RaggedFrame, CrowdedFrame, ShortAnswer, RunOver}
+use Rattle.strack.specs.declared.Kept.{Kept}
+use Rattle.frame.specs.declared.Tracked.{Tracked}
+use Rattle.frame.specs.declared.Tracker.{Tracker}
+use Rattle.frame.specs.State.{live, rising, stateRules}
+use Rattle.frame.specs.Frame.{Call, early, predictTracked, unbroken, predictedTracks}
+use Rattle.lapjv_walk.proofs.Cases.{and-left, and-right}
+use Rattle.frame.proofs.Rules.{Sound, sound}
+use Rattle.reports.specs.Written.{lowId}
+use Rattle.tracks.specs.Tracks.{givenAll, bornOf}
+
+-- ---- a call that no early row refuses
+
+pub record Clear (frames : ℕ) (c : Call) : Type 0 where
+  pub input : length (c .input) ≤ 320
+  pub boxes : 256 ≤ c .boxes
+  pub ids : 64 ≤ c .ids
+  pub not-over : frames < 1000000
+
+some-none : {A : Type 0} (r : Refusal) → _≡_ {A = Option Refusal} (some r) none → A
+some-none r e = absurd (let z : _≡_ {A = ℕ} 0 1 = cc in omega arith)
+
+or-left : (a b : Bool) → (a || b) ≡ false → a ≡ false
+or-left true b e = e
+or-left false b e = refl
+
+or-right : (a b : Bool) → (a || b) ≡ false → b ≡ false
+or-right true true e = e
+or-right true false e = refl
+or-right false b e = e
+
+pub clear : (frames : ℕ) (c : Call) → early frames c ≡ none → Clear frames c
+unfolding early
+clear frames c h = go (not (eqb (length (c .input) % 5) 0)) (ltb 320 (length (c .input))) refl (ltb (c .boxes) 256 || ltb (c .ids) 64) refl (leb 1000000 frames) refl h
+  where
+    go : (x y : Bool) → ltb 320 (length (c .input)) ≡ y → (z : Bool) → (ltb (c .boxes) 256 || ltb (c .ids) 64) ≡ z → (v : Bool) → leb 1000000 frames ≡ v
+        → pick x (some RaggedFrame) (pick y (some CrowdedFrame) (pick z (some ShortAnswer) (pick v (some RunOver) none))) ≡ none → Clear frames c
+    go true y e₁ z e₂ v e₃ e = some-none RaggedFrame e
+    go false true e₁ z e₂ v e₃ e = some-none CrowdedFrame e
+    go false false e₁ true e₂ v e₃ e = some-none ShortAnswer e
+    go false false e₁ false e₂ true e₃ e = some-none RunOver e
+    go false false e₁ false e₂ false e₃ e = record {
+      input = ltb-false 320 (length (c .input)) e₁;
+      boxes = ltb-false (c .boxes) 256 (or-left (ltb (c .boxes) 256) (ltb (c .ids) 64) e₂);
+      ids = ltb-false (c .ids) 64 (or-right (ltb (c .boxes) 256) (ltb (c .ids) 64) e₂);
+      not-over = leb-false 1000000 frames e₃;
+    }
+
+-- ---- ids
+
+abbrev pub below : ℕ → Tracked → Bool
+below n e = ltb (e .id) n
+
+rising-below : (from n : ℕ) (es : List Tracked) → rising from n es ≡ true → every (below n) es ≡ true
+rising-below from n [] h = refl
+rising-below from n (e ∷ es) h = both (below n e) (every (below n) es) (and-right (leb from (e .id)) (below n e) (and-left (leb from (e .id) && below n e) (rising (suc (e .id)) n es) h)) (rising-below (suc (e .id)) n es (and-right (leb from (e .id) && below n e) (rising (suc (e .id)) n es) h))
+  where
+    both : (a b : Bool) → a ≡ true → b ≡ true → (a && b) ≡ true
+    both true b p q = q
+    both false b p q = p
+
+predicted-below : (n : ℕ) (es : List Tracked) → every (below n) es ≡ true → every (below n) (keep unbroken (map predictTracked es)) ≡ true
+predicted-below n [] h = refl
+predicted-below n (e ∷ es) h = go (unbroken (predictTracked e)) (and-left (below n e) (every (below n) es) h) (predicted-below n es (and-right (below n e) (every (below n) es) h))
+  where
+    go : (b : Bool) → below n e ≡ true → every (below n) (keep unbroken (map predictTracked es)) ≡ true → every (below n) (put b (predictTracked e) (keep unbroken (map predictTracked es))) ≡ true
+    go true p q = rw (p, q)
+    go false p q = q
+
+pub low-ids : (t : Tracker) → stateRules t ≡ true → every (below (t .issued)) (predictedTracks (live t)) ≡ true
+unfolding predictedTracks
+low-ids t h = predicted-below (t .issued) (live t) (rising-below 0 (t .issued) (live t) (sound t h .ids))
+
+-- after grants and births every id fits
+lower : (n : ℕ) → n ≤ 64000000 → (e : Tracked) → below n e ≡ true → lowId e ≡ true
+unfolding lowId
+lower n l e h = let b : e .id < n = ltb-true (e .id) n h in lt-ltb (e .id) 64000000 (omega (arith, b, l))
+
+low-given : (n : ℕ) → n ≤ 64000000 → (dt : ℕ) (es : List Tracked) (ks : List Kept) (rest : List Tracked) → every (below n) es ≡ true → every lowId rest ≡ true → every lowId (givenAll dt es ks ++ rest) ≡ true
+unfolding lowId
+low-given n l dt [] ks rest h r = r
+low-given n l dt (e ∷ es) [] rest h r = r
+low-given n l dt (e ∷ es) (k ∷ ks) rest h r = rw (lower n l e (and-left (below n e) (every (below n) es) h)) (low-given n l dt es ks rest (and-right (below n e) (every (below n) es) h) r)
+
+low-born : (n : ℕ) (ds : List Detection) → n + length ds ≤ 64000000 → every lowId (bornOf n ds) ≡ true
+unfolding lowId
+low-born n [] h = refl
+low-born n (d ∷ ds) h = rw (lt-ltb n 64000000 (omega arith)) (low-born (suc n) ds (omega arith))
+
+pub low-joined : (n dt : ℕ) (es : List Tracked) (ks : List Kept) (ds : List Detection) → every (below n) es ≡ true → n + length ds ≤ 64000000 → every lowId (givenAll dt es ks ++ bornOf n ds) ≡ true
+low-joined n dt es ks ds h l = low-given n (omega arith) dt es ks (bornOf n ds) h (low-born n ds l)

@@ -1,0 +1,31 @@
+-- What owning a value tells: how long its arrays are. Assumes nothing.
+use Prim.Native.Nat.{ℕ}
+use mathlib.Core.Path.{_≡_}
+use mathlib.Core.List.{List}
+use lib.Ieee.{Float}
+use lib.ListN.{length}
+use mir.Val.{Val}
+use denote.Laws.{Is}
+use borrow.Author.Needs.{length-unmapped}
+use Rattle.objects.specs.declared.Dets.{Dets}
+use Rattle.objects.proofs.Dets as De
+use Rattle.rounds.specs.declared.grants.Places.{Places}
+use Rattle.rounds.specs.declared.views.Views.{Views}
+use Rattle.rounds.proofs.grants.Places as Pl
+use Rattle.rounds.proofs.views.Views as Vi
+
+pub at-long : (p : Places) (vs : List Val) → Is Pl.the-row p vs → length (p .at) ≡ 64
+at-long p vs h = length-unmapped ℕ (p .at) 64 (h .1 .1 .1 .0 .1 .0 .1)
+
+pub cells-long : (d : Dets) (vs : List Val) → Is De.the-row d vs → length (d .cells) ≡ 320
+cells-long d vs h = length-unmapped Float (d .cells) 320 (h .1 .1 .1 .0 .1 .0 .1)
+
+module _ (v : Views) (vs : List Val) (h : Is Vi.the-row v vs) where
+  pub boxes-long : length (v .boxes) ≡ 256
+  boxes-long = length-unmapped Float (v .boxes) 256 (h .1 .1 .1 .0 .1 .0 .1)
+
+  pub directions-long : length (v .directions) ≡ 128
+  directions-long = length-unmapped Float (v .directions) 128 (h .1 .1 .1 .1 .0 .1 .0 .1)
+
+  pub previous-long : length (v .previous) ≡ 320
+  previous-long = length-unmapped Float (v .previous) 320 (h .1 .1 .1 .1 .1 .1 .0 .1 .0 .1)

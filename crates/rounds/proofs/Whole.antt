@@ -1,0 +1,134 @@
+-- The three rounds on the arrays, one after another, are the frame's rounds. Assumes nothing.
+use mathlib.Core.Path.{_≡_, refl, sym, ap, _∙_}
+use mathlib.Core.Bool.{Bool, true, false}
+use mathlib.Core.List.{List, [], _∷_, map}
+use Prim.Native.Nat.{ℕ, _/_, _≤_}
+use native.Mathlib.Omega.{arith}
+use lib.Ieee.{Float}
+use lib.IntN.{ℤ}
+use lib.ListN.{length, getD, take, length-map, List·getD-map}
+use lib.Seq.{length-take-le}
+use Rattle.lists.specs.Lists.{pick, keep}
+use Rattle.lists.proofs.Tab.{length-tab}
+use Rattle.lists.proofs.Keep.{keep-short}
+use Rattle.object.specs.declared.Corners.{Corners}
+use Rattle.assoc.specs.Associate.{cornersAt, associate, reassociate}
+use Rattle.frame.specs.declared.Settings.{Settings}
+use Rattle.frame.specs.Objects.{Obj, objectAt, objectsOf, firstClass, spares, firstScore, spareScore}
+use Rattle.frame.specs.Rounds.{View, Slot, Work, emptySlot, noView, noSlot, noCorners, slotAt, viewAt, detOf, openFrom, placeOf, firstRound, laterRound, rounds}
+use Rattle.frame.proofs.Seats.{seat-views}
+use Rattle.objects.specs.declared.Dets.{Dets}
+use Rattle.objects.specs.Dets.{detsOf}
+use Rattle.objects.proofs.Pushing.{dets-count}
+use Rattle.rounds.specs.declared.Pairing.{Pairing}
+use Rattle.rounds.specs.declared.views.Views.{Views}
+use Rattle.rounds.specs.Views.{viewsOf}
+use Rattle.rounds.specs.Pairs.{Pairs, FirstOf, LaterOf}
+use Rattle.rounds.proofs.Seeing.{views-count, boxes-at, lasts-at}
+use Rattle.rounds.proofs.Opening.{take-few}
+use Rattle.rounds.proofs.Leaving.{left-few}
+
+-- ---- views stay
+
+abbrev viewsIn : List Slot → List View
+viewsIn ss = map (λ (a : Slot). a .view) ss
+
+abbrev firstMarks : Settings → List View → List Obj → List ℤ
+firstMarks s vs os = associate (s .«iou_threshold») (s .inertia) (length os) (length vs) (detOf os) (λ j. viewAt vs j .box) (λ j. viewAt vs j .direction) (λ j. viewAt vs j .previous)
+
+abbrev laterMarks : (View → Corners) → Settings → List Slot → List Obj → List ℤ
+laterMarks target s ss os =
+    let js = openFrom 0 ss in
+    map (placeOf js) (reassociate (s .«iou_threshold») (length os) (length js) (detOf os) (λ j. getD (map (λ j. target (slotAt ss j .view)) js) j noCorners))
+
+empty-views : (vs : List View) → viewsIn (map emptySlot vs) ≡ vs
+empty-views [] = refl
+empty-views (v ∷ vs) = ap (λ l. v ∷ l) (empty-views vs)
+
+first-views : (s : Settings) (vs : List View) (os : List Obj) → viewsIn (firstRound s vs os .slots) ≡ vs
+unfolding firstRound
+first-views s vs os = seat-views 0 (firstMarks s vs os) os (map emptySlot vs) ∙ empty-views vs
+
+later-views : (k : ℕ) (target : View → Corners) (s : Settings) (ss : List Slot) (os : List Obj) → viewsIn (laterRound k target s ss os .slots) ≡ viewsIn ss
+unfolding laterRound
+later-views k target s ss os = seat-views k (laterMarks target s ss os) os ss
+
+module _ (ss : List Slot) (vs : List View) (e : viewsIn ss ≡ vs) where
+  same-view : (j : ℕ) → viewAt vs j ≡ slotAt ss j .view
+  same-view j = ap (λ (l : List View). getD l j noView) (sym e) ∙ List·getD-map (λ (a : Slot). a .view) ss j noSlot
+
+  same-targets : (target : View → Corners) → _≡_ {A = ℕ → Corners} (λ j. target (viewAt vs j)) (λ j. target (slotAt ss j .view))
+  same-targets target = λ i j. target (same-view j i)
+
+  same-count : length vs ≡ length ss
+  same-count = ap length (sym e) ∙ length-map ss (λ (a : Slot). a .view)
+
+-- ---- the three rounds
+
+module _ (s : Settings) (vs : List View) (os : List Obj) (count : ℕ) (v : Views) (d₀ d₁ : Dets) (r₀ r₁ r₂ : Pairing)
+    (n : count ≡ length vs)
+    (e : v ≡ viewsOf vs)
+    (f : d₀ ≡ detsOf (firstClass s os))
+    (g : d₁ ≡ detsOf (pick (s .«use_byte») (spares s os) []))
+    (h₀ : FirstOf s v d₀ r₀)
+    (h₁ : LaterOf (s .«iou_threshold») (v .boxes) count d₁ (r₀ .grants) r₁)
+    (h₂ : LaterOf (s .«iou_threshold») (v .lasts) count (r₀ .left) (r₁ .grants) r₂) where
+  pub rounds-are : Pairs (rounds s vs os) r₂
+  unfolding rounds
+  rounds-are =
+      let w₀ : Work = firstRound s vs (firstClass s os) in
+      let w₁ : Work = laterRound 1 (λ (x : View). x .box) s (w₀ .slots) (pick (s .«use_byte») (spares s os) []) in
+      let v₀ : viewsIn (w₀ .slots) ≡ vs = first-views s vs (firstClass s os) in
+      let v₁ : viewsIn (w₁ .slots) ≡ vs = later-views 1 (λ (x : View). x .box) s (w₀ .slots) (pick (s .«use_byte») (spares s os) []) ∙ v₀ in
+      let a : Pairs w₀ r₀ = h₀ vs (firstClass s os) e f in
+      let b : Pairs w₁ r₁
+      = h₁ 1 (λ (x : View). x .box) s (w₀ .slots) (pick (s .«use_byte») (spares s os) []) refl (ap (λ (x : Views). cornersAt (x .boxes)) e ∙ boxes-at vs ∙ same-targets (w₀ .slots) vs v₀ (λ (x : View). x .box)) (n ∙ same-count (w₀ .slots) vs v₀) g (a .0) in
+      h₂ 2 (λ (x : View). x .last) s (w₁ .slots) (w₀ .left) refl (ap (λ (x : Views). cornersAt (x .lasts)) e ∙ lasts-at vs ∙ same-targets (w₁ .slots) vs v₁ (λ (x : View). x .last)) (n ∙ same-count (w₁ .slots) vs v₁) (a .1) (b .0)
+
+-- ---- 64 at most
+
+pub few-views : {A : Type 0} (f : A → View) (count : ℕ) (table : List A) (v : Views) → v ≡ viewsOf (map f (take count table)) → count ≤ 64 → v .n ≤ 64
+few-views f count table v e h = rw e (omega (arith, views-count (map f (take count table)), length-map (take count table) f, take-few count table))
+
+pub all-views : {A : Type 0} (f : A → View) (count : ℕ) (table : List A) → count ≤ length table → count ≡ length (map f (take count table))
+all-views f count table h = sym (length-map (take count table) f ∙ length-take-le count table h)
+
+module _ (input : List Float) (h : length input ≤ 320) where
+  pub few-objects : length (objectsOf input) ≤ 64
+  unfolding objectsOf
+  few-objects = omega (arith, length-tab (objectAt input) (length input / 5))
+
+  pub few-kept : (t : Obj → Bool) (d : Dets) → d ≡ detsOf (keep t (objectsOf input)) → d .n ≤ 64
+  few-kept t d e = rw e (omega (arith, dets-count (keep t (objectsOf input)), keep-short t (objectsOf input), few-objects))
+
+  few-picked : (b : Bool) (t : Obj → Bool) → length (pick b (keep t (objectsOf input)) []) ≤ 64
+  few-picked true t = omega (arith, keep-short t (objectsOf input), few-objects)
+  few-picked false t = omega arith
+
+  pub few-byte : (s : Settings) (d : Dets) → d ≡ detsOf (pick (s .«use_byte») (spares s (objectsOf input)) []) → d .n ≤ 64
+  few-byte s d e = rw e (omega (arith, dets-count (pick (s .«use_byte») (spares s (objectsOf input)) []), few-picked (s .«use_byte») (λ (o : Obj). spareScore s (o .det .score))))
+
+  pub few-left : (s : Settings) (vs : List View) (d : Dets) → d ≡ detsOf (firstRound s vs (firstClass s (objectsOf input)) .left) → d .n ≤ 64
+  unfolding firstRound
+  few-left s vs d e =
+      let os : List Obj = firstClass s (objectsOf input) in
+      rw e (omega (arith, dets-count (firstRound s vs os .left), left-few (firstMarks s vs os) os, keep-short (λ (o : Obj). firstScore s (o .det .score)) (objectsOf input), few-objects))
+
+-- ---- for the frame
+
+pub rounds-count : (s : Settings) (vs : List View) (os : List Obj) → length (rounds s vs os .slots) ≡ length vs
+unfolding rounds
+rounds-count s vs os =
+    let w₀ : Work = firstRound s vs (firstClass s os) in
+    let w₁ : Work = laterRound 1 (λ (x : View). x .box) s (w₀ .slots) (pick (s .«use_byte») (spares s os) []) in
+    let w₂ : Work = laterRound 2 (λ (x : View). x .last) s (w₁ .slots) (w₀ .left) in
+    let e : viewsIn (w₂ .slots) ≡ vs
+    = later-views 2 (λ (x : View). x .last) s (w₁ .slots) (w₀ .left) ∙ later-views 1 (λ (x : View). x .box) s (w₀ .slots) (pick (s .«use_byte») (spares s os) []) ∙ first-views s vs (firstClass s os) in
+    sym (same-count (w₂ .slots) vs e)
+
+pub rounds-left : (s : Settings) (vs : List View) (os : List Obj) → length (rounds s vs os .left) ≤ length os
+unfolding rounds firstRound laterRound
+rounds-left s vs os =
+    let w₀ : Work = firstRound s vs (firstClass s os) in
+    let w₁ : Work = laterRound 1 (λ (x : View). x .box) s (w₀ .slots) (pick (s .«use_byte») (spares s os) []) in
+    omega (arith, left-few (laterMarks (λ (x : View). x .last) s (w₁ .slots) (w₀ .left)) (w₀ .left), left-few (firstMarks s vs (firstClass s os)) (firstClass s os), keep-short (λ (o : Obj). firstScore s (o .det .score)) os)

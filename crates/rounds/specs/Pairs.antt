@@ -1,0 +1,33 @@
+-- What the code's rounds promise, in the frame's rounds. Definitions only.
+use mathlib.Core.Path.{_≡_}
+use mathlib.Core.List.{List}
+use Prim.Native.Nat.{ℕ}
+use lib.Ieee.{Float}
+use lib.ListN.{length}
+use Rattle.object.specs.declared.Corners.{Corners}
+use Rattle.strack.specs.declared.Kept.{Kept}
+use Rattle.assoc.specs.Associate.{cornersAt}
+use Rattle.frame.specs.declared.Settings.{Settings}
+use Rattle.frame.specs.Objects.{Obj}
+use Rattle.frame.specs.Rounds.{View, Slot, Work, slotAt, firstRound, laterRound}
+use Rattle.objects.specs.declared.Dets.{Dets}
+use Rattle.objects.specs.Dets.{detsOf}
+use Rattle.rounds.specs.declared.Pairing.{Pairing}
+use Rattle.rounds.specs.declared.views.Views.{Views}
+use Rattle.rounds.specs.Views.{viewsOf}
+use Rattle.rounds.specs.Grants.{grantsOf}
+
+-- the slots' grants and the objects left, as the code keeps them
+abbrev pub Pairs : Work → Pairing → Type 0
+Pairs w r = (r .grants ≡ grantsOf (w .slots)) × (r .left ≡ detsOf (w .left))
+
+-- the round on predicted boxes
+abbrev pub FirstOf : Settings → Views → Dets → Pairing → Type 0
+FirstOf s v d r = (vs : List View) (os : List Obj) → v ≡ viewsOf vs → d ≡ detsOf os → Pairs (firstRound s vs os) r
+
+-- a later round, on the boxes that a target gives
+abbrev pub LaterOf : Float → List Float → ℕ → Dets → List Kept → Pairing → Type 0
+LaterOf thr boxes count d grants r =
+    (k : ℕ) (target : View → Corners) (s : Settings) (ss : List Slot) (os : List Obj)
+    → thr ≡ s .«iou_threshold» → cornersAt boxes ≡ (λ j. target (slotAt ss j .view)) → count ≡ length ss → d ≡ detsOf os → grants ≡ grantsOf ss
+    → Pairs (laterRound k target s ss os) r

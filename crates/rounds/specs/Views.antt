@@ -1,0 +1,25 @@
+-- What the rounds see of the tracks, as the code keeps it: each kind of number one after another, and NaN past them. Definitions only.
+use mathlib.Core.List.{List, [], _∷_}
+use lib.Ieee.{Float}
+use lib.ListN.{length}
+use Rattle.object.specs.declared.Corners.{Corners}
+use Rattle.assoc.specs.Angle.{Step}
+use Rattle.frame.specs.Rounds.{View}
+use Rattle.objects.specs.Cells.{flat, padded}
+use Rattle.objects.specs.Dets.{fiveOf}
+use Rattle.rounds.specs.declared.views.Views.{Views}
+
+abbrev pub fourOf : Corners → List Float
+fourOf b = b .x1 ∷ b .y1 ∷ b .x2 ∷ b .y2 ∷ []
+
+abbrev pub twoOf : Step → List Float
+twoOf v = v .dy ∷ v .dx ∷ []
+
+unfoldable pub viewsOf : List View → Views
+viewsOf vs = record {
+  n = length vs;
+  boxes = padded 256 (flat (λ (v : View). fourOf (v .box)) vs);
+  directions = padded 128 (flat (λ (v : View). twoOf (v .direction)) vs);
+  lasts = padded 256 (flat (λ (v : View). fourOf (v .last)) vs);
+  previous = padded 320 (flat (λ (v : View). fiveOf (v .previous)) vs);
+}

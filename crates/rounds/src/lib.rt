@@ -1,0 +1,108 @@
+// The rounds that pair a frame's objects with the tracks: document 01, item 6.
+mod grants;
+mod views;
+
+use crate::grants::Places;
+use crate::views::Views;
+use assoc::Marks;
+use frame::Settings;
+use frame::Tracked;
+use objects::Dets;
+use strack::Kept;
+ghost use mathlib.Core.Path.{_≡_};
+ghost use mathlib.Core.List.{[], map};
+ghost use Prim.Native.Nat.{_≤_};
+ghost use lib.ListN.{length, take};
+ghost use Rattle.lists.specs.Lists.{pick, All};
+ghost use Rattle.frame.specs.Objects.{objectsOf, spares};
+ghost use Rattle.frame.specs.Rounds.{placeOf, rounds};
+ghost use Rattle.frame.specs.Frame.{trackedView};
+ghost use Rattle.objects.specs.Dets.{detsOf, detsIn};
+ghost use Rattle.rounds.specs.Grants.{seated, Names, LeftOf};
+ghost use Rattle.rounds.specs.Pairs.{Pairs, FirstOf, LaterOf};
+
+// What each track was granted, and the first-class objects that no round paired.
+pub struct Pairing {
+    pub grants: [Kept; 64],
+    pub left: Dets,
+}
+
+// What marks among the places grant, and what they leave.
+fn by_marks(marks: Marks, places: Places, dets: Dets, grants: [Kept; 64]) -> Pairing
+    requires { ⌜ (dets .n ≤ 64) × All (Names (places .at) 64) (marks .at) ⌝ }
+    ensures { λ r. ⌜ (r .grants ≡ seated (take (dets .n) (map (placeOf (places .at)) (marks .at))) (detsIn dets) grants) × LeftOf (marks .at) dets (r .left) ⌝ }
+{
+    let at = marks.at;
+    let given = grants::seat(at, places, dets, grants);
+    let left = grants::left(at, dets);
+    Pairing {
+        grants: given,
+        left,
+    }
+}
+
+// The round on predicted boxes, with directions: every track is open.
+fn first_round(s: Settings, v: Views, dets: Dets) -> Pairing
+    requires { ⌜ (v .n ≤ 64) × (dets .n ≤ 64) ⌝ }
+    ensures { λ r. ⌜ FirstOf s v dets r ⌝ }
+{
+    let cells = dets.cells;
+    let boxes = v.boxes;
+    let directions = v.directions;
+    let previous = v.previous;
+    let marks = assoc::lap::associate(
+        s.iou_threshold,
+        s.inertia,
+        &cells,
+        dets.n,
+        &boxes,
+        &directions,
+        &previous,
+        v.n,
+    );
+    let none = grants::no_grants();
+    let places = grants::open_places(v.n, none);
+    by_marks(marks, places, dets, none)
+}
+
+// A later round: these objects and the tracks that are still open, by overlap with one box of each track.
+fn later_round(thr: f32, boxes: [f32; 256], count: usize, dets: Dets, grants: [Kept; 64]) -> Pairing
+    requires { ⌜ (count ≤ 64) × (dets .n ≤ 64) ⌝ }
+    ensures { λ r. ⌜ LaterOf thr boxes count dets grants r ⌝ }
+{
+    let places = grants::open_places(count, grants);
+    let cells = dets.cells;
+    let targets = grants::gather(boxes, places);
+    let marks = assoc::lap::simple_iou_match(thr, &cells, dets.n, &targets, places.n);
+    by_marks(marks, places, dets, grants)
+}
+
+// The spares, where `use_byte` lets them in.
+fn byte_objects(s: Settings, input: &[f32]) -> Dets
+    requires { ⌜ length (now input) ≤ 320 ⌝ }
+    ensures { λ r. ⌜ r ≡ detsOf (pick (s .«use_byte») (spares s (objectsOf (now (input .entry)))) []) ⌝ }
+{
+    if s.use_byte {
+        return objects::spare(s, input);
+    }
+    objects::none()
+}
+
+// Predicted boxes; spares; last boxes.
+pub fn paired(s: Settings, count: usize, table: [Tracked; 64], input: &[f32]) -> Pairing
+    requires { ⌜ (count ≤ 64) × (length (now input) ≤ 320) × (s .«delta_t» ≤ 8) ⌝ }
+    ensures { λ r. ⌜ Pairs (rounds s (map (trackedView s) (take count table)) (objectsOf (now (input .entry)))) r ⌝ }
+{
+    let v = views::all(s, count, table);
+    let boxes = v.boxes;
+    let lasts = v.lasts;
+    let thr = s.iou_threshold;
+    let firsts = objects::first_class(s, input);
+    let spares = byte_objects(s, input);
+    let first = first_round(s, v, firsts);
+    let given = first.grants;
+    let left = first.left;
+    let byte = later_round(thr, boxes, count, spares, given);
+    let given = byte.grants;
+    later_round(thr, lasts, count, left, given)
+}

@@ -1,0 +1,4 @@
+pub mod Known
+pub mod Table
+pub mod Rules
+pub mod Agree
