@@ -34,7 +34,7 @@ const EDGES: [u32; 27] = [
     0x7FFF_FFFF,
 ];
 
-pub const KINDS: [&str; 7] = ["floats", "matrices", "lap", "boxes", "filter", "assoc", "states"];
+pub const KINDS: [&str; 9] = ["floats", "matrices", "lap", "boxes", "filter", "assoc", "states", "calls", "runs"];
 
 /// All lines of a kind.
 pub fn lines(kind: &str, seed: u64) -> Vec<u8> {
@@ -47,6 +47,8 @@ pub fn lines(kind: &str, seed: u64) -> Vec<u8> {
         "filter" => v.filters(),
         "assoc" => v.assocs(),
         "states" => v.states(),
+        "calls" => v.calls(),
+        "runs" => v.runs(),
         _ => panic!("no such kind: {kind}; there are {KINDS:?}"),
     }
     v.out
@@ -261,39 +263,72 @@ impl Vectors {
     }
 
     fn assocs(&mut self) {
-        for case in 0..160 {
+        const LARGE: [(usize, usize); 8] = [(64, 64), (64, 0), (0, 64), (64, 63), (33, 64), (64, 7), (7, 64), (0, 0)];
+        for case in 0..240 {
             let counts = [0, 1, 2, 3, 5, 8, 13];
-            let (mut nd, mut nt) = (self.random.pick(&counts), self.random.pick(&counts));
-            if case % 40 == 39 {
-                (nd, nt) = self.random.pick(&[(64, 64), (64, 0), (0, 64), (64, 63), (33, 64)]);
+            let mut sizes = (self.random.pick(&counts), self.random.pick(&counts));
+            if case % 15 == 14 {
+                sizes = LARGE[case / 15 % LARGE.len()];
             }
-            let threshold = self.random.pick(&[0.3, 0.3, 0.3, 0.0, 1.0, 0.05]);
-            let inertia = self.random.pick(&[0.2, 0.2, 0.0, 1.0]);
-            let odd = case % 4 == 3;
-            let tracks: Vec<[f32; 4]> = (0..nt).map(|_| self.crowd(case)).collect();
-            let mut numbers = vec![threshold, inertia];
-            for d in 0..nd {
-                let near = tracks.get(d).copied().filter(|_| self.random.once_in(2));
-                let shift = self.random.between(-6.0, 6.0);
-                let corners = near.map_or_else(|| self.crowd(case), |b| b.map(|v| v + shift));
-                numbers.extend(corners);
-                let score = self.random.between(0.1, 1.0);
-                numbers.push(if odd { self.number(4) } else { score });
-            }
-            numbers.extend(tracks.concat());
-            for _ in 0..nt {
-                let known = !self.random.once_in(4);
-                let (dy, dx) = (self.random.between(-1.0, 1.0), self.random.between(-1.0, 1.0));
-                numbers.extend(if known { [dy, dx] } else { [0.0, 0.0] });
-            }
-            for _ in 0..nt {
-                let seen = !self.random.once_in(4);
-                let corners = self.crowd(case);
-                numbers.extend(if seen { corners } else { [-1.0; 4] });
-                numbers.push(if seen { 0.9 } else { -1.0 });
-            }
-            self.line(&format!("assoc {nd} {nt}"), &numbers);
+            self.assoc(case, sizes);
         }
+        (0..40).for_each(|case| self.crossing(case));
+    }
+
+    fn assoc_settings(&mut self) -> Vec<f32> {
+        vec![self.random.pick(&[0.3, 0.3, 0.3, 0.0, -0.0, 1.0, 0.05]), self.random.pick(&[0.2, 0.2, 0.0, 1.0])]
+    }
+
+    /// Objects on or near the tracks, or anywhere; every fourth case on whole numbers, every fourth with odd ones.
+    fn assoc(&mut self, case: usize, (nd, nt): (usize, usize)) {
+        let mut numbers = self.assoc_settings();
+        let tracks: Vec<[f32; 4]> = (0..nt).map(|_| self.crowd(case)).collect();
+        for d in 0..nd {
+            let near = tracks.get(d).copied().filter(|_| self.random.once_in(2));
+            let shift = if self.random.once_in(4) { 0.0 } else { self.random.between(-6.0, 6.0) };
+            let corners = near.map_or_else(|| self.crowd(case), |b| b.map(|v| v + shift));
+            numbers.extend(corners);
+            let score = match case % 4 {
+                2 => self.random.between(-1.0, 1.0),
+                3 => self.number(4),
+                _ => self.random.between(0.1, 1.0),
+            };
+            numbers.push(score);
+        }
+        numbers.extend(tracks.concat());
+        for _ in 0..nt {
+            let known = !self.random.once_in(4);
+            let (dy, dx) = (self.random.between(-1.0, 1.0), self.random.between(-1.0, 1.0));
+            numbers.extend(if known { [dy, dx] } else { [0.0, 0.0] });
+        }
+        for _ in 0..nt {
+            let seen = !self.random.once_in(4);
+            let corners = self.crowd(case);
+            numbers.extend(if seen { corners } else { [-1.0; 4] });
+            numbers.push(if seen { 0.9 } else { -1.0 });
+        }
+        self.line(&format!("assoc {nd} {nt}"), &numbers);
+    }
+
+    /// Two tracks, or four, that meet from opposite sides, so that the direction decides, or the order where nothing else does.
+    fn crossing(&mut self, case: usize) {
+        let n = 2 + case % 2 * 2;
+        let meet = self.random.between(20.0, 60.0);
+        let (step, shift) = (self.random.between(2.0, 12.0), self.random.pick(&[0.0, 0.0, 1.0, 3.0]));
+        let side = |i: usize| if i % 2 == 0 { 1.0f32 } else { -1.0 };
+        let at = |x: f32, i: usize| [x, 10.0 + 4.0 * (i / 2) as f32, x + 16.0, 42.0 + 4.0 * (i / 2) as f32];
+        let mut numbers = self.assoc_settings();
+        for i in 0..n {
+            numbers.extend(at(meet - side(i) * shift, i));
+            numbers.push(0.9);
+        }
+        (0..n).for_each(|i| numbers.extend(at(meet + side(i) * shift, i)));
+        (0..n).for_each(|i| numbers.extend([0.0, side(i)]));
+        for i in 0..n {
+            numbers.extend(at(meet - side(i) * step, i));
+            numbers.push(0.8);
+        }
+        self.line(&format!("assoc {n} {n}"), &numbers);
     }
 
     /// States that runs come to, sound and unsound, loaded and shown.
@@ -302,6 +337,125 @@ impl Vectors {
         for run in loads.take(30).collect::<Vec<_>>() {
             self.out.extend(run.head.join("\n").as_bytes());
             self.out.extend(b"\nhash\nstate\n");
+        }
+    }
+
+    fn text(&mut self, line: &str) {
+        self.out.extend(line.as_bytes());
+        self.out.push(b'\n');
+    }
+
+    /// A frame on the usual buffers, and the state's hash behind it.
+    fn frame(&mut self, numbers: &[f32]) {
+        self.line("frame 256 64", numbers);
+        self.text("hash");
+    }
+
+    /// Each line in its plain forms: what is asked of no tracker, every setting at and past its ends, each refusal, what can't be
+    /// read, a track that is lost twice, and an overlap at the threshold.
+    fn calls(&mut self) {
+        const USUAL: [&str; 7] = ["3F000000", "3E99999A", "3E4CCCCD", "30", "3", "3", "0"];
+        const GIVEN: [&[&str]; 7] = [
+            &["7FC00000", "FFC00001", "7F800000", "FF800000", "80000000", "BF800000"],
+            &["7FC00000", "80000001", "80000000", "00000000", "3F800000", "3F800001", "7F800000"],
+            &["7FC00000", "80000001", "80000000", "00000000", "3F800000", "3F800001", "FF800000"],
+            &["0", "255", "256", "4294967295", "4294967296", "-1"],
+            &["0", "255", "256", "4294967295", "4294967296"],
+            &["0", "8", "9", "4294967295", "x"],
+            &["0", "1", "2"],
+        ];
+        for line in ["frame 256 64", "repeat 2 256 64", "state", "hash", "# a remark", "", "no such line"] {
+            self.text(line);
+        }
+        for (i, given) in GIVEN.iter().enumerate() {
+            for word in *given {
+                let mut words = USUAL;
+                words[i] = word;
+                self.text(&format!("new {}", words.join(" ")));
+                self.frame(&[10.0, 10.0, 20.0, 40.0, 0.9]);
+            }
+        }
+        let usual = format!("new {}", USUAL.join(" "));
+        self.text(&usual);
+        for line in
+            ["new", "new 3F000000", "frame", "frame 256", "frame 256 64 3F80000", "frame 256 64 3f800000", "hash 1"]
+        {
+            self.text(line);
+        }
+        for line in ["repeat 0 256 64", "repeat 256 64", "frame 256 64 ", "frame  256 64", "Frame 256 64", "state 1"] {
+            self.text(line);
+        }
+        self.text("state");
+        self.refusals();
+        self.text(&usual);
+        self.lost_twice(3);
+        self.text(&format!("{} 1", usual.strip_suffix(" 0").unwrap()));
+        self.lost_twice(29);
+        self.text(&usual);
+        self.lost_twice(31);
+        self.at_threshold();
+    }
+
+    /// A round on spares that pairs one at an overlap of just the threshold, 0, beside one above it.
+    fn at_threshold(&mut self) {
+        let (unit, point) = ([0.0, 0.0, 1.0, 1.0], [0.0; 4]);
+        let seen = |b: [f32; 4], score: f32| [b[0], b[1], b[2], b[3], score];
+        self.text("new 3F666666 00000000 00000000 2 0 0 1");
+        self.frame(&[seen(unit, 1.0), seen(unit, 1.0)].concat());
+        self.frame(&[seen(point, 0.2), seen(unit, 0.875)].concat());
+        self.text("state");
+    }
+
+    /// Each row of the table of refusals alone and with the rows behind it, then a table that is full to the last place.
+    fn refusals(&mut self) {
+        let far = |n: usize| (0..n).flat_map(|i| [i as f32 * 100.0, 5000.0, 50.0, 50.0, 0.9]).collect::<Vec<f32>>();
+        self.frame(&far(3)[..14]);
+        self.frame(&far(65));
+        self.frame(&far(100)[..499]);
+        for (boxes, ids) in [(255u32, 64u32), (256, 63), (0, 0), (1024, 256), (4_294_967_295, 4_294_967_295)] {
+            self.line(&format!("frame {boxes} {ids}"), &far(2));
+            self.line(&format!("frame {boxes} {ids}"), &far(2)[1..]);
+        }
+        self.frame(&far(64));
+        self.frame(&[1.0, 1.0, 5.0, 5.0, 0.9]);
+        self.line("repeat 3 256 64", &far(64));
+        self.line("repeat 40 256 64", &[]);
+        self.frame(&far(64));
+        self.text("state");
+        for frames in [999_999, 1_000_000, 1_000_001] {
+            self.text(&format!("load 3F000000 3E99999A 3E4CCCCD 30 3 3 0 {frames} 5 0"));
+            self.text("end");
+            self.frame(&far(2));
+            self.frame(&far(2));
+        }
+    }
+
+    /// A track that is seen, then unseen for a number of frames, seen once, and unseen again.
+    fn lost_twice(&mut self, gap: usize) {
+        let at = |i: usize| [40.0 + 3.0 * i as f32, 50.0 + i as f32, 30.0, 60.0, 0.9];
+        (0..5).for_each(|i| self.frame(&at(i)));
+        (0..gap).for_each(|_| self.frame(&[]));
+        self.frame(&at(5 + gap));
+        (0..gap).for_each(|_| self.frame(&[]));
+        (6 + 2 * gap..10 + 2 * gap).for_each(|i| self.frame(&at(i)));
+        self.text("state");
+    }
+
+    /// Runs of each family, cut to a length at which many fit.
+    fn runs(&mut self) {
+        for family in 0..runs::FAMILIES.len() as u64 {
+            let (count, longest) = match runs::FAMILIES[family as usize] {
+                "full" => (5, 24),
+                "long" => (1, 500),
+                _ => (6, 60),
+            };
+            for _ in 0..count {
+                let seed = self.random.bits() / 24 * 12 + family;
+                let mut run = runs::run(seed);
+                run.frames.truncate(longest);
+                self.text(&format!("# {} {seed}", run.family));
+                run.lines().iter().for_each(|line| self.text(line));
+            }
         }
     }
 

@@ -72,7 +72,7 @@ fn put_pairs(out: &mut [u8], at: usize, x: &[i64], y: &[i64], n: usize) -> usize
 }
 
 // The mark at a place as a whole number.
-fn mark_at(marks: &[i64], i: usize) -> u64 {
+pub fn mark_at(marks: &[i64], i: usize) -> u64 {
     if i < marks.len() { whole(marks[i]) } else { 0 }
 }
 

@@ -1,5 +1,6 @@
 // Answers to the comparison's lines that need no tracker: one function for each kind of line.
 mod assign;
+mod associate;
 mod boxes;
 mod filter;
 mod floats;
@@ -24,6 +25,9 @@ pub fn by_word(line: &[u8], out: &mut [u8], at: usize) -> Answer {
     }
     if protocol::is_word(line, b"lap") {
         return assign::lap(line, out, at);
+    }
+    if protocol::is_word(line, b"assoc") {
+        return associate::associate(line, out, at);
     }
     if protocol::is_word(line, b"predict") {
         return filter::predict(line, out, at);

@@ -6,28 +6,12 @@ pub fn respond(line: &[u8], out: &mut [u8], at: usize, number: u64) -> usize {
     match answers::by_word(line, out, at) {
         Answer::Ends(end) => end,
         Answer::Bad => put_error(out, at, number, b": bad numbers"),
-        Answer::Other => put_missing(line, out, at, number),
+        Answer::Other => put_error(out, at, number, b": no such line"),
     }
 }
 
-// `?` where the line is of the protocol, and an error where it is of none.
-fn put_missing(line: &[u8], out: &mut [u8], at: usize, number: u64) -> usize {
-    if is_known(line) {
-        return protocol::put_text(out, at, b"?\n");
-    }
-    put_error(out, at, number, b": no such line")
-}
-
-fn is_known(line: &[u8]) -> bool {
-    is_tracker_line(line)
-        || protocol::is_word(line, b"assoc")
-        || protocol::is_word(line, b"iou")
-        || protocol::is_word(line, b"measure")
-        || protocol::is_word(line, b"box")
-        || protocol::is_word(line, b"dir")
-}
-
-fn is_tracker_line(line: &[u8]) -> bool {
+// Whether a line makes a tracker or gives it frames.
+pub fn is_tracker_line(line: &[u8]) -> bool {
     protocol::is_word(line, b"new")
         || protocol::is_word(line, b"frame")
         || protocol::is_word(line, b"repeat")

@@ -1,5 +1,7 @@
-// The lines that make, load and show the tracker that is held.
+// The lines on the tracker that is held.
 use crate::lines;
+use frame::Tracker;
+use frame_lines::Told;
 use state_lines::Loading;
 
 // The tracker that is held, if one is, or the one whose lines are still coming.
@@ -37,10 +39,51 @@ pub fn answer(line: &[u8], out: &mut [u8], at: usize, number: u64, s: Session) -
     if protocol::is_word(line, b"load") {
         return load(line, at);
     }
+    if lines::is_tracker_line(line) {
+        return track(line, out, at, number, s);
+    }
     Reply {
         at: show(line, out, at, number, s),
         session: s,
     }
+}
+
+// The lines that make a tracker or give it frames.
+fn track(line: &[u8], out: &mut [u8], at: usize, number: u64, s: Session) -> Reply {
+    let load = s.load;
+    let told = tell(line, out, at, s.held, load.tracker);
+    let tracker = told.tracker;
+    Reply {
+        at: put_told(out, told.at, number, told.good),
+        session: Session {
+            held: told.held,
+            loading: false,
+            load: Loading { tracker, ..load },
+        },
+    }
+}
+
+fn tell(line: &[u8], out: &mut [u8], at: usize, held: bool, t: Tracker) -> Told {
+    if protocol::is_word(line, b"frame") {
+        return frame_lines::frame(line, out, at, held, t);
+    }
+    if protocol::is_word(line, b"repeat") {
+        return frame_lines::repeat(line, out, at, held, t);
+    }
+    frame_lines::new(line, out, at, held, t)
+}
+
+// What a line that can't be read gets; it has done nothing else.
+fn put_told(out: &mut [u8], at: usize, number: u64, good: bool) -> usize {
+    if good {
+        return at;
+    }
+    lines::put_error(out, at, number, b": bad numbers")
+}
+
+// Whether the line is this word alone.
+fn is_only(line: &[u8], word: &[u8]) -> bool {
+    protocol::is_word(line, word) && line.len() == word.len()
 }
 
 // A load drops what was held. What is wrong with it is said at its end.
@@ -58,7 +101,7 @@ fn load(line: &[u8], at: usize) -> Reply {
 
 fn load_more(line: &[u8], out: &mut [u8], at: usize, number: u64, s: Session) -> Reply {
     let load = s.load;
-    if !protocol::is_word(line, b"end") {
+    if !is_only(line, b"end") {
         let load = state_lines::take(line, load);
         return Reply {
             at,
@@ -93,6 +136,9 @@ fn show(line: &[u8], out: &mut [u8], at: usize, number: u64, s: Session) -> usiz
     let is_hash = protocol::is_word(line, b"hash");
     if !is_state && !is_hash {
         return lines::respond(line, out, at, number);
+    }
+    if !is_only(line, b"state") && !is_only(line, b"hash") {
+        return put_told(out, at, number, false);
     }
     if !s.held {
         return protocol::put_text(out, at, b"no tracker\n");

@@ -220,6 +220,9 @@ fn compare(path: &str, runs: u64, first: u64) -> bool {
             return false;
         }
         sums.add(seed, &run, &expected);
+        if (seed - first + 1) % 1000 == 0 {
+            eprintln!("{} runs, {} frames so far, no difference", seed - first + 1, sums.frames);
+        }
     }
     program.stop();
     sums.show();

@@ -1,0 +1,48 @@
+-- `frame_lines::fill_boxes` meets its contract. Assumes nothing.
+use borrow.Author.Needs.{needs}
+use mathlib.Core.Path.{_≡_}
+use Prim.Native.Nat.{_-_, _≤_}
+use lib.ListN.{length}
+use Rattle.frame_lines.proofs.fill_boxes.Statement.{statement}
+use Rattle.frame_lines.proofs.fill_boxes.Tie as tie
+
+abbrev Inv-loop : tie.InvT-loop
+Inv-loop boxes₀ i₀ boxes i = (i ≤ length boxes) × (length boxes ≡ length boxes₀)
+
+abbrev μ-loop : tie.MeasureT-loop
+μ-loop boxes₀ i₀ boxes i = length boxes - i
+
+loop-holds : tie.Need-loop-holds Inv-loop μ-loop
+loop-holds c = search needs
+
+clear-box-requires : tie.Need-clear-box-requires Inv-loop μ-loop
+clear-box-requires c κs = search needs
+
+add-i : tie.Need-add-i Inv-loop μ-loop
+add-i c = search needs
+
+loop-less : tie.Need-loop-less Inv-loop μ-loop
+loop-less c = search needs
+
+loop-again : tie.Need-loop-again Inv-loop μ-loop
+loop-again c = search needs
+
+same-length : tie.Need-same-length Inv-loop μ-loop
+same-length c = search needs
+
+returns : tie.Need-returns Inv-loop μ-loop
+returns c = search needs
+
+pub fill-boxes-spec : {M : Type 1} → statement M
+fill-boxes-spec =
+    tie.close
+    (tie.spec
+    Inv-loop
+    μ-loop
+    loop-holds
+    clear-box-requires
+    add-i
+    loop-less
+    loop-again
+    same-length
+    returns)
