@@ -7,6 +7,8 @@ ghost use Rattle.kalman_filter.specs.Gap.{replayOf};
 ghost use Rattle.kalman_filter.specs.Line.{lineOf, boxAt};
 
 // The 7 state numbers (x, y, area, ratio, and the speeds of the first three) and their covariance, row after row.
+// C and Rust pass it too, in the image of a state.
+#[repr(C)]
 pub struct Filter {
     pub x: [f32; 7],
     pub p: [f32; 49],

@@ -1,0 +1,135 @@
+//! Document 01's cases through the library, and that a refusal writes nothing.
+use satinjacks::{assign, Detection, Refusal, Settings, Track, Tracker, TrackerImage};
+
+const DEFAULTS: Settings = Settings {
+    det_thresh: 0.5,
+    iou_threshold: 0.3,
+    inertia: 0.2,
+    max_age: 30,
+    min_hits: 3,
+    delta_t: 3,
+    use_byte: false,
+};
+
+fn at(x: f32, y: f32, width: f32, height: f32, score: f32) -> Detection {
+    Detection { x, y, width, height, score }
+}
+
+/// The call is refused with `refusal` and the state keeps its bytes.
+fn refuses(tracker: &mut Tracker, detections: &[Detection], refusal: Refusal) {
+    let before = tracker.image().bytes().to_vec();
+    assert_eq!(tracker.update(detections), Err(refusal));
+    assert_eq!(tracker.image().bytes(), before);
+}
+
+#[test]
+fn first_frame() {
+    let mut tracker = Tracker::new(0.5).unwrap();
+    let tracks = tracker.update(&[at(0.0, 0.0, 64.0, 64.0, 0.9)]).unwrap();
+    assert_eq!(tracks, [Track { id: 1, x: 0.0, y: 0.0, width: 64.0, height: 64.0 }]);
+    assert_eq!((tracker.count(), tracker.frames(), tracker.issued()), (1, 1, 1));
+}
+
+#[test]
+fn width_zero_breaks_the_track() {
+    let mut tracker = Tracker::new(0.5).unwrap();
+    let track = tracker.update(&[at(0.0, 0.0, 0.0, 64.0, 0.9)]).unwrap()[0];
+    assert_eq!((track.id, track.x, track.width), (1, 0.0, 0.0));
+    assert!(track.y.is_nan() && track.height.is_nan());
+    assert!(tracker.update(&[]).unwrap().is_empty());
+    assert_eq!((tracker.count(), tracker.issued()), (0, 1));
+}
+
+#[test]
+fn defaults_are_the_same_both_ways() {
+    let (a, b) = (Tracker::new(0.5).unwrap(), Tracker::with_settings(DEFAULTS).unwrap());
+    assert_eq!(a.image().bytes(), b.image().bytes());
+}
+
+#[test]
+fn settings_out_of_range() {
+    assert_eq!(Tracker::new(f32::NAN).err(), Some(Refusal::BadSetting));
+    assert!(Tracker::with_settings(Settings { max_age: 255, ..DEFAULTS }).is_ok());
+    for bad in [
+        Settings { iou_threshold: 1.5, ..DEFAULTS },
+        Settings { inertia: -0.5, ..DEFAULTS },
+        Settings { max_age: 256, ..DEFAULTS },
+        Settings { min_hits: 256, ..DEFAULTS },
+        Settings { delta_t: 9, ..DEFAULTS },
+    ] {
+        assert_eq!(Tracker::with_settings(bad).err(), Some(Refusal::BadSetting));
+    }
+}
+
+#[test]
+fn refusals_keep_the_state() {
+    let mut tracker = Tracker::new(0.5).unwrap();
+    tracker.update(&[at(0.0, 0.0, 64.0, 64.0, 0.9)]).unwrap();
+    refuses(&mut tracker, &[at(0.0, 0.0, 64.0, 64.0, 0.9); 65], Refusal::CrowdedFrame);
+
+    // 64 tracks, then 64 objects elsewhere
+    let row = |y: f32| (0..64u8).map(|k| at(100.0 * f32::from(k), y, 64.0, 64.0, 0.9)).collect::<Vec<_>>();
+    let mut full = Tracker::new(0.5).unwrap();
+    full.update(&row(0.0)).unwrap();
+    refuses(&mut full, &row(1000.0), Refusal::FullTable);
+    assert_eq!(full.update(&row(0.0)).unwrap().len(), 64);
+
+    let mut over = TrackerImage::zeroed();
+    *over = *tracker.image();
+    over.frames = 1_000_000;
+    refuses(&mut Tracker::from_image(over), &[], Refusal::RunOver);
+}
+
+#[test]
+fn unsound_states() {
+    let mut tracker = Tracker::new(0.5).unwrap();
+    tracker.update(&[at(0.0, 0.0, 64.0, 64.0, 0.9)]).unwrap();
+    let spoilt = |spoil: fn(&mut TrackerImage)| {
+        let mut image = Box::new(*tracker.image());
+        spoil(&mut image);
+        refuses(&mut Tracker::from_image(image), &[], Refusal::UnsoundState);
+    };
+    spoilt(|i| i.use_byte = 2);
+    spoilt(|i| i.tracks[0].last.is = 7);
+    spoilt(|i| i.count = usize::MAX);
+    spoilt(|i| i.tracks[0].id = 1);
+    spoilt(|i| i.delta_t = 9);
+    // cells past the count mean nothing
+    let mut image = Box::new(*tracker.image());
+    image.tracks[1].last.is = 7;
+    assert!(Tracker::from_image(image).update(&[]).is_ok());
+}
+
+#[test]
+fn assignment() {
+    let (mut rows, mut columns) = ([7; 2], [7; 2]);
+    assert_eq!(assign(2, &[1.0; 3], &mut rows, &mut columns), Err(Refusal::BadMatrix));
+    assert_eq!((rows, columns), ([7; 2], [7; 2]));
+    assign(2, &[4.0, 1.0, 2.0, 3.0], &mut rows, &mut columns).unwrap();
+    assert_eq!((rows, columns), ([1, 0], [1, 0]));
+}
+
+/// A crowded run in a thread whose stack is small: the 2 MB that Rust gives a thread, and a quarter of it.
+#[test]
+fn a_small_stack_suffices() {
+    let run = || {
+        let mut tracker = Tracker::with_settings(Settings { use_byte: true, min_hits: 0, ..DEFAULTS }).unwrap();
+        for frame in 0..40u8 {
+            let seen: Vec<_> = (0..64u8)
+                .map(|k| {
+                    at(
+                        37.0 * f32::from(k) + 3.0 * f32::from(frame),
+                        5.0 * f32::from(k % 7),
+                        64.0,
+                        64.0,
+                        0.4 + 0.01 * f32::from(k),
+                    )
+                })
+                .collect();
+            tracker.update(&seen).unwrap();
+        }
+    };
+    for stack in [2 << 20, 1 << 19] {
+        std::thread::Builder::new().stack_size(stack).spawn(run).unwrap().join().unwrap();
+    }
+}

@@ -1,0 +1,13 @@
+-- `image::thaw_box` meets its contract. Assumes nothing.
+use borrow.Author.Tests.{eq-eqb, ne-eqb}
+use Rattle.image.proofs.thaw_box.Statement.{statement}
+use Rattle.image.proofs.thaw_box.Tie as tie
+
+returns : tie.Need-returns
+returns c = rw (eq-eqb _ _ (c .if1 .taken))
+
+returns-2 : tie.Need-returns-2
+returns-2 c = rw (ne-eqb _ _ (c .if1 .left))
+
+pub thaw-box-spec : {M : Type 1} → statement M
+thaw-box-spec = tie.close (tie.spec returns returns-2)

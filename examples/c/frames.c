@@ -1,0 +1,45 @@
+/* Three frames of one animal, a frame without it, and a refusal. */
+#include "satinjacks.h"
+
+#include <stdio.h>
+#include <string.h>
+
+_Static_assert(sizeof(SatinjacksTrack) == 720, "a track is 720 bytes");
+_Static_assert(sizeof(SatinjacksTracker) == 46128, "a tracker is 46,128 bytes");
+
+static SatinjacksTracker tracker, before;
+static float boxes[SATINJACKS_BOXES];
+static uint64_t ids[SATINJACKS_IDS];
+
+static void show(const float *input, size_t len)
+{
+    SatinjacksReply r = satinjacks_update(&tracker, input, len, boxes, SATINJACKS_BOXES, ids, SATINJACKS_IDS);
+    printf("frame %u: refusal %llu, reports %zu\n", tracker.frames, (unsigned long long)r.number, r.count);
+    for (size_t k = 0; k < r.count; k++)
+        printf("  id %llu at %g, %g, %g by %g\n", (unsigned long long)ids[k],
+               boxes[4 * k], boxes[4 * k + 1], boxes[4 * k + 2], boxes[4 * k + 3]);
+}
+
+int main(void)
+{
+    if (satinjacks_new(&tracker, 0.5f) != SATINJACKS_ACCEPTED)
+        return 1;
+    float animal[5] = {0, 0, 64, 64, 0.9f};
+    for (int k = 0; k < 3; k++) {
+        show(animal, 5);
+        animal[0] += 4;
+    }
+    show(animal, 0);
+
+    before = tracker;
+    show(animal, 4); /* no multiple of 5 */
+    if (memcmp(&before, &tracker, sizeof tracker) != 0)
+        return 1;
+
+    double cost[4] = {4, 1, 2, 3};
+    int64_t x[2], y[2];
+    if (satinjacks_assign(2, cost, 4, x, 2, y, 2) != SATINJACKS_ACCEPTED)
+        return 1;
+    printf("row 0 takes column %lld, row 1 column %lld\n", (long long)x[0], (long long)x[1]);
+    return 0;
+}
