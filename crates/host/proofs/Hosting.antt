@@ -23,7 +23,7 @@ use Rattle.host.specs.declared.Stepped.{Stepped}
 use Rattle.host.specs.Host.{toldOf, imageAfter, frameBy, frameOn, replyOf, Hosted}
 
 -- no refusal has number 0
-nonzero : (r : Refusal) → numberOf r ≡ 0 → ⊥
+pub nonzero : (r : Refusal) → numberOf r ≡ 0 → ⊥
 nonzero UnsoundState e = omega (arith, e)
 nonzero BadSetting e = omega (arith, e)
 nonzero RaggedFrame e = omega (arith, e)

@@ -41,7 +41,7 @@ map-back : {A B : Type 0} (f : A → B) (g : B → A) → ((a : A) → g (f a) �
 map-back f g h [] = refl
 map-back f g h (a ∷ l) = ap₂ (λ x xs. x ∷ xs) (h a) (map-back f g h l)
 
-track-back : (e : Tracked) → thawTrack (freezeTrack e) ≡ e
+pub track-back : (e : Tracked) → thawTrack (freezeTrack e) ≡ e
 unfolding thawTrack freezeTrack
 track-back e =
     let t = e .track in

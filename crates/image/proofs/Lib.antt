@@ -1,3 +1,4 @@
 pub mod Cells
 pub mod Back
+pub mod Holding
 pub mod Known

@@ -78,19 +78,19 @@ pub struct TrackerImage {
 
 // ---- flags and tags
 
-fn flag(b: bool) -> u32
+pub fn flag(b: bool) -> u32
     ensures { λ r. ⌜ r ≡ flagOf b ⌝ }
 {
     if b { 1 } else { 0 }
 }
 
-fn is_set(n: u32) -> bool
+pub fn is_set(n: u32) -> bool
     ensures { λ r. ⌜ r ≡ isSet n ⌝ }
 {
     n != 0
 }
 
-fn is_tag(n: u32) -> bool
+pub fn is_tag(n: u32) -> bool
     ensures { λ r. ⌜ r ≡ tagged n ⌝ }
 {
     n <= 1
@@ -242,7 +242,7 @@ fn is_meant_kept(kept: [BoxImage; 8]) -> bool
 
 // ---- a track
 
-fn freeze_track(e: Tracked) -> TrackImage
+pub fn freeze_track(e: Tracked) -> TrackImage
     ensures { λ r. ⌜ r ≡ freezeTrack e ⌝ }
 {
     let t = e.track;
@@ -267,7 +267,7 @@ fn freeze_track(e: Tracked) -> TrackImage
     }
 }
 
-fn thaw_track(i: TrackImage) -> Tracked
+pub fn thaw_track(i: TrackImage) -> Tracked
     ensures { λ r. ⌜ r ≡ thawTrack i ⌝ }
 {
     let filter = i.filter;
@@ -291,7 +291,7 @@ fn thaw_track(i: TrackImage) -> Tracked
     Tracked { id: i.id, track }
 }
 
-fn is_meant_track(i: TrackImage) -> bool
+pub fn is_meant_track(i: TrackImage) -> bool
     ensures { λ r. ⌜ r ≡ meantTrack i ⌝ }
 {
     let last = i.last;

@@ -29,7 +29,7 @@ fn shown_box(t: Track) -> Corners
     }
 }
 
-fn is_reported(s: Settings, frames: u32, t: Track) -> bool
+pub fn is_reported(s: Settings, frames: u32, t: Track) -> bool
     ensures { λ r. ⌜ r ≡ isReported s frames t ⌝ }
 {
     (t.since == 0) & ((s.min_hits <= t.streak) | (frames <= s.min_hits))
@@ -58,7 +58,7 @@ fn report(e: Tracked, n: usize, boxes: &mut [f32], ids: &mut [u64])
 }
 
 // How many reports there are after one more track.
-fn report_if(reported: bool, e: Tracked, n: usize, boxes: &mut [f32], ids: &mut [u64]) -> usize
+pub fn report_if(reported: bool, e: Tracked, n: usize, boxes: &mut [f32], ids: &mut [u64]) -> usize
     requires { ⌜ (4 * n + 4 ≤ length (now boxes)) × ((n < length (now ids)) × (lowId e ≡ true)) ⌝ }
     ensures { λ r. ⌜ (r ≡ pick reported (n + 1) n) × ((now (boxes .exit) ≡ pick reported (rectAt n (reportOf e .rect) (now (boxes .entry))) (now (boxes .entry))) × (now (ids .exit) ≡ pick reported (set (now (ids .entry)) n (reportOf e .id)) (now (ids .entry)))) ⌝ }
 {

@@ -7,7 +7,6 @@ use native.Mathlib.Omega.{arith}
 use lib.Ieee.{Float}
 use lib.IntN.{ℤ}
 use lib.ListN.{length, getD, take, length-map, List·getD-map}
-use lib.Seq.{length-take-le}
 use Rattle.lists.specs.Lists.{pick, keep}
 use Rattle.lists.proofs.Tab.{length-tab}
 use Rattle.lists.proofs.Keep.{keep-short}
@@ -15,7 +14,7 @@ use Rattle.object.specs.declared.Corners.{Corners}
 use Rattle.assoc.specs.Associate.{cornersAt, associate, reassociate}
 use Rattle.frame.specs.declared.Settings.{Settings}
 use Rattle.frame.specs.Objects.{Obj, objectAt, objectsOf, firstClass, spares, firstScore, spareScore}
-use Rattle.frame.specs.Rounds.{View, Slot, Work, emptySlot, noView, noSlot, noCorners, slotAt, viewAt, detOf, openFrom, placeOf, firstRound, laterRound, rounds}
+use Rattle.frame.specs.Rounds.{View, Slot, Work, emptySlot, noView, noSlot, noCorners, slotAt, viewAt, detOf, openFrom, placeOf, leftBy, firstRound, laterRound, rounds}
 use Rattle.frame.proofs.Seats.{seat-views}
 use Rattle.objects.specs.declared.Dets.{Dets}
 use Rattle.objects.specs.Dets.{detsOf}
@@ -23,6 +22,7 @@ use Rattle.objects.proofs.Pushing.{dets-count}
 use Rattle.rounds.specs.declared.Pairing.{Pairing}
 use Rattle.rounds.specs.declared.views.Views.{Views}
 use Rattle.rounds.specs.Views.{viewsOf}
+use Rattle.rounds.specs.Grants.{LeftOf}
 use Rattle.rounds.specs.Pairs.{Pairs, FirstOf, LaterOf}
 use Rattle.rounds.proofs.Seeing.{views-count, boxes-at, lasts-at}
 use Rattle.rounds.proofs.Opening.{take-few}
@@ -65,14 +65,13 @@ module _ (ss : List Slot) (vs : List View) (e : viewsIn ss ≡ vs) where
 
 -- ---- the three rounds
 
-module _ (s : Settings) (vs : List View) (os : List Obj) (count : ℕ) (v : Views) (d₀ d₁ : Dets) (r₀ r₁ r₂ : Pairing)
-    (n : count ≡ length vs)
+module _ (s : Settings) (vs : List View) (os : List Obj) (v : Views) (d₀ d₁ : Dets) (r₀ r₁ r₂ : Pairing)
     (e : v ≡ viewsOf vs)
     (f : d₀ ≡ detsOf (firstClass s os))
     (g : d₁ ≡ detsOf (pick (s .«use_byte») (spares s os) []))
     (h₀ : FirstOf s v d₀ r₀)
-    (h₁ : LaterOf (s .«iou_threshold») (v .boxes) count d₁ (r₀ .grants) r₁)
-    (h₂ : LaterOf (s .«iou_threshold») (v .lasts) count (r₀ .left) (r₁ .grants) r₂) where
+    (h₁ : LaterOf (s .«iou_threshold») (v .boxes) (v .n) d₁ (r₀ .grants) r₁)
+    (h₂ : LaterOf (s .«iou_threshold») (v .lasts) (v .n) (r₀ .left) (r₁ .grants) r₂) where
   pub rounds-are : Pairs (rounds s vs os) r₂
   unfolding rounds
   rounds-are =
@@ -80,6 +79,7 @@ module _ (s : Settings) (vs : List View) (os : List Obj) (count : ℕ) (v : View
       let w₁ : Work = laterRound 1 (λ (x : View). x .box) s (w₀ .slots) (pick (s .«use_byte») (spares s os) []) in
       let v₀ : viewsIn (w₀ .slots) ≡ vs = first-views s vs (firstClass s os) in
       let v₁ : viewsIn (w₁ .slots) ≡ vs = later-views 1 (λ (x : View). x .box) s (w₀ .slots) (pick (s .«use_byte») (spares s os) []) ∙ v₀ in
+      let n : v .n ≡ length vs = ap (λ (x : Views). x .n) e ∙ views-count vs in
       let a : Pairs w₀ r₀ = h₀ vs (firstClass s os) e f in
       let b : Pairs w₁ r₁
       = h₁ 1 (λ (x : View). x .box) s (w₀ .slots) (pick (s .«use_byte») (spares s os) []) refl (ap (λ (x : Views). cornersAt (x .boxes)) e ∙ boxes-at vs ∙ same-targets (w₀ .slots) vs v₀ (λ (x : View). x .box)) (n ∙ same-count (w₀ .slots) vs v₀) g (a .0) in
@@ -89,9 +89,6 @@ module _ (s : Settings) (vs : List View) (os : List Obj) (count : ℕ) (v : View
 
 pub few-views : {A : Type 0} (f : A → View) (count : ℕ) (table : List A) (v : Views) → v ≡ viewsOf (map f (take count table)) → count ≤ 64 → v .n ≤ 64
 few-views f count table v e h = rw e (omega (arith, views-count (map f (take count table)), length-map (take count table) f, take-few count table))
-
-pub all-views : {A : Type 0} (f : A → View) (count : ℕ) (table : List A) → count ≤ length table → count ≡ length (map f (take count table))
-all-views f count table h = sym (length-map (take count table) f ∙ length-take-le count table h)
 
 module _ (input : List Float) (h : length input ≤ 320) where
   pub few-objects : length (objectsOf input) ≤ 64
@@ -108,11 +105,8 @@ module _ (input : List Float) (h : length input ≤ 320) where
   pub few-byte : (s : Settings) (d : Dets) → d ≡ detsOf (pick (s .«use_byte») (spares s (objectsOf input)) []) → d .n ≤ 64
   few-byte s d e = rw e (omega (arith, dets-count (pick (s .«use_byte») (spares s (objectsOf input)) []), few-picked (s .«use_byte») (λ (o : Obj). spareScore s (o .det .score))))
 
-  pub few-left : (s : Settings) (vs : List View) (d : Dets) → d ≡ detsOf (firstRound s vs (firstClass s (objectsOf input)) .left) → d .n ≤ 64
-  unfolding firstRound
-  few-left s vs d e =
-      let os : List Obj = firstClass s (objectsOf input) in
-      rw e (omega (arith, dets-count (firstRound s vs os .left), left-few (firstMarks s vs os) os, keep-short (λ (o : Obj). firstScore s (o .det .score)) (objectsOf input), few-objects))
+pub left-fits : (marks : List ℤ) (d r : Dets) → LeftOf marks d r → d .n ≤ 64 → (os : List Obj) → d ≡ detsOf os → r .n ≤ 64
+left-fits marks d r l h os e = rw (l os e) (omega (arith, h, dets-count (leftBy marks os), left-few marks os, ap (λ (x : Dets). x .n) e, dets-count os))
 
 -- ---- for the frame
 

@@ -1,6 +1,6 @@
 // The rounds that pair a frame's objects with the tracks: document 01, item 6.
 mod grants;
-mod views;
+pub mod views;
 
 use crate::grants::Places;
 use crate::views::Views;
@@ -10,15 +10,16 @@ use frame::Tracked;
 use objects::Dets;
 use strack::Kept;
 ghost use mathlib.Core.Path.{_≡_};
-ghost use mathlib.Core.List.{[], map};
+ghost use mathlib.Core.List.{List, [], map};
 ghost use Prim.Native.Nat.{_≤_};
 ghost use lib.ListN.{length, take};
 ghost use Rattle.lists.specs.Lists.{pick, All};
-ghost use Rattle.frame.specs.Objects.{objectsOf, spares};
-ghost use Rattle.frame.specs.Rounds.{placeOf, rounds};
+ghost use Rattle.frame.specs.Objects.{Obj, objectsOf, spares};
+ghost use Rattle.frame.specs.Rounds.{View, placeOf, rounds};
 ghost use Rattle.frame.specs.Frame.{trackedView};
 ghost use Rattle.objects.specs.Dets.{detsOf, detsIn};
 ghost use Rattle.rounds.specs.Grants.{seated, Names, LeftOf};
+ghost use Rattle.rounds.specs.Views.{viewsOf};
 ghost use Rattle.rounds.specs.Pairs.{Pairs, FirstOf, LaterOf};
 
 // What each track was granted, and the first-class objects that no round paired.
@@ -44,7 +45,7 @@ fn by_marks(marks: Marks, places: Places, dets: Dets, grants: [Kept; 64]) -> Pai
 // The round on predicted boxes, with directions: every track is open.
 fn first_round(s: Settings, v: Views, dets: Dets) -> Pairing
     requires { ⌜ (v .n ≤ 64) × (dets .n ≤ 64) ⌝ }
-    ensures { λ r. ⌜ FirstOf s v dets r ⌝ }
+    ensures { λ r. ⌜ FirstOf s v dets r × ((os : List Obj) → dets ≡ detsOf os → r .left .n ≤ 64) ⌝ }
 {
     let cells = dets.cells;
     let boxes = v.boxes;
@@ -89,11 +90,11 @@ fn byte_objects(s: Settings, input: &[f32]) -> Dets
 }
 
 // Predicted boxes; spares; last boxes.
-pub fn paired(s: Settings, count: usize, table: [Tracked; 64], input: &[f32]) -> Pairing
-    requires { ⌜ (count ≤ 64) × (length (now input) ≤ 320) × (s .«delta_t» ≤ 8) ⌝ }
-    ensures { λ r. ⌜ Pairs (rounds s (map (trackedView s) (take count table)) (objectsOf (now (input .entry)))) r ⌝ }
+pub fn paired_by(s: Settings, v: Views, input: &[f32]) -> Pairing
+    requires { ⌜ (v .n ≤ 64) × (length (now input) ≤ 320) ⌝ }
+    ensures { λ r. ⌜ ((vs : List View) → v ≡ viewsOf vs → Pairs (rounds s vs (objectsOf (now (input .entry)))) r) ⌝ }
 {
-    let v = views::all(s, count, table);
+    let count = v.n;
     let boxes = v.boxes;
     let lasts = v.lasts;
     let thr = s.iou_threshold;
@@ -105,4 +106,13 @@ pub fn paired(s: Settings, count: usize, table: [Tracked; 64], input: &[f32]) ->
     let byte = later_round(thr, boxes, count, spares, given);
     let given = byte.grants;
     later_round(thr, lasts, count, left, given)
+}
+
+// The rounds over the first `count` tracks of a table.
+pub fn paired(s: Settings, count: usize, table: [Tracked; 64], input: &[f32]) -> Pairing
+    requires { ⌜ (count ≤ 64) × (length (now input) ≤ 320) × (s .«delta_t» ≤ 8) ⌝ }
+    ensures { λ r. ⌜ Pairs (rounds s (map (trackedView s) (take count table)) (objectsOf (now (input .entry)))) r ⌝ }
+{
+    let v = views::all(s, count, table);
+    paired_by(s, v, input)
 }

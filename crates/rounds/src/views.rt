@@ -92,6 +92,30 @@ fn detection_or(l: LastBox) -> Detection
     }
 }
 
+// What the rounds see of a track as it stands after predict, at place j.
+pub fn put_view(
+    s: Settings,
+    e: Tracked,
+    j: usize,
+    boxes: &mut [f32],
+    directions: &mut [f32],
+    lasts: &mut [f32],
+    previous: &mut [f32],
+)
+    requires { ⌜ (j < 64) × (s .«delta_t» ≤ 8) × (length (now boxes) ≡ 256) × (length (now directions) ≡ 128) × (length (now lasts) ≡ 256) × (length (now previous) ≡ 320) ⌝ }
+    ensures { λ _. ⌜ (now (boxes .exit) ≡ sets (now (boxes .entry)) (4 * j) (fourOf (trackedView s e .box))) × (now (directions .exit) ≡ sets (now (directions .entry)) (2 * j) (twoOf (trackedView s e .direction))) × (now (lasts .exit) ≡ sets (now (lasts .entry)) (4 * j) (fourOf (trackedView s e .last))) × (now (previous .exit) ≡ sets (now (previous .entry)) (5 * j) (fiveOf (trackedView s e .previous))) ⌝ }
+{
+    let t = e.track;
+    let filter = t.filter;
+    let direction = t.direction;
+    let last = t.last;
+    let before = strack::k_previous_obs(t, s.delta_t);
+    put_corners(boxes, j, strack::get_state(filter));
+    put_direction(directions, j, direction);
+    put_corners(lasts, j, strack::corners(detection_or(last)));
+    put_detection(previous, j, detection_or(before));
+}
+
 // ---- all tracks
 
 // What the rounds see of the first `count` tracks of the table, as they stand after predict.
@@ -107,15 +131,15 @@ pub fn all(s: Settings, count: usize, table: [Tracked; 64]) -> Views
     let mut j = 0;
     while j < count {
         let e = table[j];
-        let t = e.track;
-        let filter = t.filter;
-        let direction = t.direction;
-        let last = t.last;
-        let before = strack::k_previous_obs(t, s.delta_t);
-        put_corners(&mut boxes, j, strack::get_state(filter));
-        put_direction(&mut directions, j, direction);
-        put_corners(&mut lasts, j, strack::corners(detection_or(last)));
-        put_detection(&mut previous, j, detection_or(before));
+        put_view(
+            s,
+            e,
+            j,
+            &mut boxes,
+            &mut directions,
+            &mut lasts,
+            &mut previous,
+        );
         j += 1;
     }
     Views {

@@ -5,11 +5,9 @@ use frame::Tracked;
 use frame::Tracker;
 use object::Refusal;
 ghost use mathlib.Core.Path.{_≡_};
-ghost use mathlib.Core.Bool.{_&&_};
 ghost use Prim.Native.Nat.{_≤_};
-ghost use lib.Dec.{leb, ltb};
-ghost use Rattle.frame.specs.State.{unitRange, inRange, live, trackRules, stateRules};
-ghost use Rattle.rules.specs.Rules.{soundFrom, Told};
+ghost use Rattle.frame.specs.State.{unitRange, inRange, live, stateRules};
+ghost use Rattle.rules.specs.Rules.{totalRules, soundAt, soundFrom, Told};
 
 // ---- settings
 
@@ -47,8 +45,8 @@ pub fn in_range(s: Settings) -> bool
 // ---- the state
 
 // The rules of one live track, and an id from `from` on and below `issued`.
-fn is_sound_at(s: Settings, frames: u32, issued: u64, from: u64, e: Tracked) -> bool
-    ensures { λ r. ⌜ r ≡ (leb from (e .id) && ltb (e .id) issued && trackRules s frames e) ⌝ }
+pub fn is_sound_at(s: Settings, frames: u32, issued: u64, from: u64, e: Tracked) -> bool
+    ensures { λ r. ⌜ r ≡ soundAt s frames issued from e ⌝ }
 {
     if e.id < from {
         return false;
@@ -86,21 +84,28 @@ fn are_sound(t: Tracker) -> bool
     true
 }
 
+// The rules that need no track.
+pub fn are_totals_sound(s: Settings, frames: u32, issued: u64, count: usize) -> bool
+    ensures { λ r. ⌜ r ≡ totalRules s frames issued count ⌝ }
+{
+    if !in_range(s) {
+        return false;
+    }
+    if 1000000 < frames {
+        return false;
+    }
+    if 64 * (frames as u64) < issued {
+        return false;
+    }
+    count <= 64
+}
+
 // Whether a state obeys the state rules: any state may be asked.
 pub fn is_sound(t: Tracker) -> bool
     ensures { λ r. ⌜ r ≡ stateRules t ⌝ }
 {
     let s = t.settings;
-    if !in_range(s) {
-        return false;
-    }
-    if 1000000 < t.frames {
-        return false;
-    }
-    if 64 * (t.frames as u64) < t.issued {
-        return false;
-    }
-    if 64 < t.count {
+    if !are_totals_sound(s, t.frames, t.issued, t.count) {
         return false;
     }
     are_sound(t)

@@ -50,13 +50,13 @@ has-room es w e h = rw e (omega (arith, tracks-count es))
 -- ---- a loop that keeps what passes
 
 module _ (p : Tracked → Bool) (f : Tracked → Tracked) (l : List Tracked) where
-  abbrev passed : ℕ → List Tracked
+  abbrev pub passed : ℕ → List Tracked
   passed i = keep p (map f (take i l))
 
-  few-passed : (i : ℕ) → length (passed i) ≤ i
+  pub few-passed : (i : ℕ) → length (passed i) ≤ i
   few-passed i = omega (arith, keep-short p (map f (take i l)), length-map (take i l) f, length-take i l)
 
-  one-more : (i : ℕ) (d : Tracked) → i < length l → passed (i + 1) ≡ passed i ++ put (p (f (getD l i d))) (f (getD l i d)) []
+  pub one-more : (i : ℕ) (d : Tracked) → i < length l → passed (i + 1) ≡ passed i ++ put (p (f (getD l i d))) (f (getD l i d)) []
   one-more i d h = rw (add-one i, take-suc l i d h, map-append f (take i l) (getD l i d ∷ []), keep-append p (map f (take i l)) (f (getD l i d) ∷ []))
 
   pub passed-room : (i : ℕ) (w : Tracks) → w ≡ tracksOf (passed i) → i < 64 → w .count < 64
@@ -76,7 +76,7 @@ module _ (p : Tracked → Bool) (f : Tracked → Tracked) (l : List Tracked) whe
 
 -- ---- the loop that gives
 
-given-more : (dt : ℕ) (es : List Tracked) (ks : List Kept) (i : ℕ) (d : Tracked) (k : Kept) → i < length es → i < length ks
+pub given-more : (dt : ℕ) (es : List Tracked) (ks : List Kept) (i : ℕ) (d : Tracked) (k : Kept) → i < length es → i < length ks
     → givenAll dt (take (suc i) es) ks ≡ givenAll dt (take i es) ks ++ (givenOne dt (getD ks i k) (getD es i d) ∷ [])
 given-more dt [] ks i d k h m = absurd (not-suc-le-zero h)
 given-more dt (e ∷ es) [] i d k h m = absurd (not-suc-le-zero m)
@@ -88,7 +88,7 @@ few-given dt [] ks = omega arith
 few-given dt (e ∷ es) [] = omega arith
 few-given dt (e ∷ es) (k ∷ ks) = omega (arith, few-given dt es ks)
 
-few-taken : (dt : ℕ) (es : List Tracked) (ks : List Kept) (i : ℕ) → length (givenAll dt (take i es) ks) ≤ i
+pub few-taken : (dt : ℕ) (es : List Tracked) (ks : List Kept) (i : ℕ) → length (givenAll dt (take i es) ks) ≤ i
 few-taken dt es ks i = omega (arith, few-given dt (take i es) ks, length-take i es)
 
 pub given-room : (dt : ℕ) (es : List Tracked) (ks : List Kept) (i : ℕ) (w : Tracks) → w ≡ tracksOf (givenAll dt (take i es) ks) → i < 64 → w .count < 64
@@ -110,16 +110,16 @@ length-born id [] = refl
 length-born id (d ∷ ds) = ap suc (length-born (suc id) ds)
 
 module _ (es : List Tracked) (id : ℕ) (f : ℕ → Detection) where
-  abbrev joined : ℕ → List Tracked
+  abbrev pub joined : ℕ → List Tracked
   joined i = es ++ bornOf id (tab f i)
 
-  length-joined : (i : ℕ) → length (joined i) ≡ length es + i
+  pub length-joined : (i : ℕ) → length (joined i) ≡ length es + i
   length-joined i = omega (arith, length-append es (bornOf id (tab f i)), length-born id (tab f i), length-tab f i)
 
   pub born-room : (i : ℕ) (w : Tracks) → w ≡ tracksOf (joined i) → length es + i < 64 → w .count < 64
   born-room i w e h = has-room (joined i) w e (omega (arith, length-joined i))
 
-  joined-more : (i : ℕ) → joined (i + 1) ≡ joined i ++ (newborn (id + i) (f i) ∷ [])
+  pub joined-more : (i : ℕ) → joined (i + 1) ≡ joined i ++ (newborn (id + i) (f i) ∷ [])
   joined-more i = rw (add-one i, born-append id (tab f i) (f i ∷ []), length-tab f i, append-assoc)
 
   pub born-turn : (i : ℕ) (w r : Tracks) (d : Detection) (b : Tracked) → w ≡ tracksOf (joined i) → length es + i < 64 → d ≡ f i → b ≡ newborn (id + i) d → r ≡ pushed w b → r ≡ tracksOf (joined (i + 1))

@@ -13,7 +13,7 @@ ghost use mathlib.Core.Bool.{true};
 ghost use mathlib.Core.List.{[], _++_};
 ghost use Prim.Native.Nat.{_+_, _≤_, _<_};
 ghost use Rattle.lists.specs.Lists.{keep, every};
-ghost use Rattle.frame.specs.State.{live, stateRules};
+ghost use Rattle.frame.specs.State.{blank, live, stateRules};
 ghost use Rattle.frame.specs.Frame.{hasNan, predictTracked, unbroken, predictedTracks, isYoung};
 ghost use Rattle.objects.specs.Dets.{detsIn};
 ghost use Rattle.tracks.specs.Tracks.{tracksOf, tracksIn, givable, givenOne, givenAll, newborn, bornOf};
@@ -24,9 +24,9 @@ pub struct Tracks {
     pub table: [Tracked; 64],
 }
 
-// No tracks.
-pub fn none() -> Tracks
-    ensures { λ r. ⌜ r ≡ tracksOf [] ⌝ }
+// What stands in a cell that holds no track.
+pub fn blank() -> Tracked
+    ensures { λ r. ⌜ r ≡ blank ⌝ }
 {
     let d = Detection {
         x1: 0.0,
@@ -35,10 +35,17 @@ pub fn none() -> Tracks
         y2: 0.0,
         score: 0.0,
     };
-    let blank = Tracked {
+    Tracked {
         id: 0,
         track: strack::birth(d),
-    };
+    }
+}
+
+// No tracks.
+pub fn none() -> Tracks
+    ensures { λ r. ⌜ r ≡ tracksOf [] ⌝ }
+{
+    let blank = blank();
     Tracks {
         count: 0,
         table: [blank; 64],
@@ -62,7 +69,7 @@ fn has_nan(b: Corners) -> bool
     ieee::is_nan(b.y2)
 }
 
-fn predict_one(e: Tracked) -> Tracked
+pub fn predict_one(e: Tracked) -> Tracked
     requires { ⌜ (e .track .age + 1 < 4294967296) × (e .track .since + 1 < 4294967296) ⌝ }
     ensures { λ r. ⌜ r ≡ predictTracked e ⌝ }
 {
@@ -71,7 +78,7 @@ fn predict_one(e: Tracked) -> Tracked
     Tracked { id: e.id, track }
 }
 
-fn is_unbroken(e: Tracked) -> bool
+pub fn is_unbroken(e: Tracked) -> bool
     ensures { λ r. ⌜ r ≡ unbroken e ⌝ }
 {
     let t = e.track;
@@ -103,7 +110,7 @@ pub fn predicted(t: Tracker) -> Tracks
 // ---- boxes and misses
 
 // One track given the box that it was granted, or a miss.
-fn give(e: Tracked, k: Kept, delta_t: u32) -> Tracked
+pub fn give(e: Tracked, k: Kept, delta_t: u32) -> Tracked
     requires { ⌜ («delta_t» ≤ 8) × (givable e ≡ true) ⌝ }
     ensures { λ r. ⌜ r ≡ givenOne «delta_t» k e ⌝ }
 {
@@ -152,7 +159,7 @@ pub fn given(ts: Tracks, grants: [Kept; 64], delta_t: u32) -> Tracks
 
 // ---- births
 
-fn birth(id: u64, d: Detection) -> Tracked
+pub fn birth(id: u64, d: Detection) -> Tracked
     ensures { λ r. ⌜ r ≡ newborn id d ⌝ }
 {
     Tracked {
@@ -183,7 +190,7 @@ pub fn born(ts: Tracks, left: Dets, issued: u64) -> Tracks
 
 // ---- ageing
 
-fn is_young(s: Settings, e: Tracked) -> bool
+pub fn is_young(s: Settings, e: Tracked) -> bool
     ensures { λ r. ⌜ r ≡ isYoung s e ⌝ }
 {
     let t = e.track;

@@ -14,6 +14,7 @@ use Rattle.frame.specs.Rounds.{keptOf}
 use Rattle.rounds.specs.Grants.{openIn, placesOf}
 use Rattle.rounds.proofs.Known.{cells-long, boxes-long, directions-long, previous-long}
 use Rattle.rounds.proofs.Tying.{all-named, associate-paired, open-all, first-is}
+use Rattle.rounds.proofs.Whole.{left-fits}
 use borrow.Author.Needs.{needs}
 use Rattle.rounds.proofs.first_round.Statement.{statement}
 use Rattle.rounds.proofs.first_round.Tie as tie
@@ -58,8 +59,10 @@ by-marks-requires c κs =
 
 returns : tie.Need-returns
 returns c =
-    let s = c .before .before .before .before .before .before .before .before .before .before .before .before in
-    first-is (s .args .s) (s .args .v) (s .args .dets) (c .before .before .no-grants .result) (c .before .open-places .result) (c .before .before .before .associate .result .at) (c .by-marks .result) (c .before .before .no-grants .ensures) (c .before .open-places .ensures) (c .before .before .before .associate .ensures .is) (c .by-marks .ensures) (s .pre .0)
+    let s = c .before .before .before .before .before .before .before .before .before .before .before .before in (
+      first-is (s .args .s) (s .args .v) (s .args .dets) (c .before .before .no-grants .result) (c .before .open-places .result) (c .before .before .before .associate .result .at) (c .by-marks .result) (c .before .before .no-grants .ensures) (c .before .open-places .ensures) (c .before .before .before .associate .ensures .is) (c .by-marks .ensures) (s .pre .0),
+      left-fits (c .before .before .before .associate .result .at) (s .args .dets) (c .by-marks .result .left) (c .by-marks .ensures .1) (s .pre .1),
+    )
 
 pub first-round-spec : {M : Type 1} → statement M
 first-round-spec =

@@ -10,8 +10,8 @@ use mathlib.Core.Bool.{Bool, true, false}
 use Rattle.frame.specs.declared.Tracker.{Tracker}
 use Rattle.frame.specs.State.{live}
 use Rattle.frame.proofs.Known.{tracker-long}
-use Rattle.rules.specs.Rules.{soundFrom}
-use Rattle.rules.proofs.Sound.{soundAt, passed, failed, none-left, id-below}
+use Rattle.rules.specs.Rules.{soundAt, soundFrom}
+use Rattle.rules.proofs.Sound.{passed, failed, none-left, id-below}
 use Rattle.rules.proofs.are_sound.Statement.{statement}
 use Rattle.rules.proofs.are_sound.Tie as tie
 

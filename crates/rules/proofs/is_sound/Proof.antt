@@ -1,53 +1,32 @@
 -- `rules::is_sound` meets its contract. Assumes nothing.
 use borrow.Author.Needs.{needs}
 use mathlib.Core.Path.{_≡_, refl, sym, ap, _∙_}
-use borrow.Author.Tests.{le-leb, lt-leb, not-true, not-false}
-use Rattle.frame.specs.State.{stateRules}
+use mathlib.Core.Bool.{Bool, true, false, _&&_}
+use Prim.Native.Nat.{_*_}
+use borrow.Author.Tests.{leb-true, not-true, not-false}
+use lib.Dec.{leb}
+use Rattle.lapjv_walk.proofs.Cases.{and-right}
+use Rattle.frame.specs.State.{inRange, stateRules}
+use Rattle.rules.specs.Rules.{totalRules}
 use Rattle.rules.proofs.is_sound.Statement.{statement}
 use Rattle.rules.proofs.is_sound.Tie as tie
 
-in-range-requires : tie.Need-in-range-requires
-in-range-requires c κs = search needs
+are-totals-sound-requires : tie.Need-are-totals-sound-requires
+are-totals-sound-requires c κs = search needs
 
 returns : tie.Need-returns
-unfolding stateRules
-returns c = rw (sym (c .before .in-range .ensures) ∙ not-true _ (c .if1 .taken))
-
-returns-2 : tie.Need-returns-2
-unfolding stateRules
-returns-2 c = rw (sym (c .before .before .before .in-range .ensures) ∙ not-false _ (c .before .before .if1 .left), lt-leb _ _ (c .if2 .taken))
-
-cast-if3 : tie.Need-cast-if3
-cast-if3 c = search needs
-
-mul-if3 : tie.Need-mul-if3
-mul-if3 c = search needs
-
-returns-3 : tie.Need-returns-3
-unfolding stateRules
-returns-3 c = rw (sym (c .before .before .before .before .before .before .in-range .ensures) ∙ not-false _ (c .before .before .before .before .before .if1 .left), le-leb _ _ (c .before .before .before .if2 .left), lt-leb _ _ (c .if3 .taken))
-
-returns-4 : tie.Need-returns-4
-unfolding stateRules
-returns-4 c = rw (sym (c .before .before .before .before .before .before .before .before .in-range .ensures) ∙ not-false _ (c .before .before .before .before .before .before .before .if1 .left), le-leb _ _ (c .before .before .before .before .before .if2 .left), le-leb _ _ (c .before .before .if3 .left), lt-leb _ _ (c .if4 .taken))
+unfolding stateRules totalRules
+returns c = rw (sym (c .before .are-totals-sound .ensures) ∙ not-true _ (c .if1 .taken))
 
 are-sound-requires : tie.Need-are-sound-requires
-are-sound-requires c κs = search needs
+unfolding totalRules
+are-sound-requires c κs =
+    let t = c .before .before .before .args .t in
+    leb-true _ _ (and-right (inRange (t .settings) && leb (t .frames) 1000000 && leb (t .issued) (64 * t .frames)) (leb (t .count) 64) (sym (c .before .are-totals-sound .ensures) ∙ not-false _ (c .if1 .left)))
 
-returns-5 : tie.Need-returns-5
-unfolding stateRules
-returns-5 c = rw (sym (c .before .before .before .before .before .before .before .before .before .in-range .ensures) ∙ not-false _ (c .before .before .before .before .before .before .before .before .if1 .left), le-leb _ _ (c .before .before .before .before .before .before .if2 .left), le-leb _ _ (c .before .before .before .if3 .left), le-leb _ _ (c .before .if4 .left)) (c .are-sound .ensures)
+returns-2 : tie.Need-returns-2
+unfolding stateRules totalRules
+returns-2 c = rw (sym (c .before .before .are-totals-sound .ensures) ∙ not-false _ (c .before .if1 .left)) (c .are-sound .ensures)
 
 pub is-sound-spec : {M : Type 1} → statement M
-is-sound-spec =
-    tie.close
-    (tie.spec
-    in-range-requires
-    returns
-    returns-2
-    cast-if3
-    mul-if3
-    returns-3
-    returns-4
-    are-sound-requires
-    returns-5)
+is-sound-spec = tie.close (tie.spec are-totals-sound-requires returns are-sound-requires returns-2)

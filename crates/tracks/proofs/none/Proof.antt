@@ -1,16 +1,15 @@
 -- `tracks::none` meets its contract. Assumes nothing.
 use borrow.Author.Needs.{needs}
-use Rattle.frame.specs.State.{blank}
 use Rattle.tracks.specs.Tracks.{tracksOf}
 use Rattle.tracks.proofs.none.Statement.{statement}
 use Rattle.tracks.proofs.none.Tie as tie
 
-birth-requires : tie.Need-birth-requires
-birth-requires c κs = search needs
+blank-requires : tie.Need-blank-requires
+blank-requires c κs = search needs
 
 returns : tie.Need-returns
-unfolding tracksOf blank
-returns c = rw (c .birth .ensures)
+unfolding tracksOf
+returns c = rw (c .blank .ensures)
 
 pub none-spec : {M : Type 1} → statement M
-none-spec = tie.close (tie.spec birth-requires returns)
+none-spec = tie.close (tie.spec blank-requires returns)

@@ -1,11 +1,10 @@
 -- `rounds::views::all` meets its contract. Assumes nothing.
-use mathlib.Core.Path.{_≡_, refl, sym, ap, _∙_}
+use mathlib.Core.Path.{_≡_, refl, sym}
 use Prim.Native.Nat.{_-_, _≤_, _<_}
 use native.Mathlib.Omega.{arith}
 use lib.ListN.{length}
-use Rattle.object.specs.Object.{cornersOf}
 use Rattle.frame.specs.Rounds.{View}
-use Rattle.frame.specs.Frame.{detectionOr, viewOf, trackedView}
+use Rattle.frame.specs.Frame.{trackedView}
 use Rattle.objects.specs.Cells.{flat, padded}
 use Rattle.objects.specs.Dets.{fiveOf}
 use Rattle.rounds.specs.Views.{fourOf, twoOf, viewsOf}
@@ -64,63 +63,39 @@ mul-e c = search needs
 array-copy-out-e : tie.Need-array-copy-out-e Inv-loop μ-loop
 array-copy-out-e c = search needs
 
-k-previous-obs-requires : tie.Need-k-previous-obs-requires Inv-loop μ-loop
-k-previous-obs-requires c κs = search needs
+slice-aggregate-put-view : tie.Need-slice-aggregate-put-view Inv-loop μ-loop
+slice-aggregate-put-view c = sym (facts (c .before .before) .boxes)
 
-slice-aggregate-put-corners : tie.Need-slice-aggregate-put-corners Inv-loop μ-loop
-slice-aggregate-put-corners c = sym (facts (c .before .before .before .before .before) .boxes)
+slice-aggregate-put-view-2 : tie.Need-slice-aggregate-put-view-2 Inv-loop μ-loop
+slice-aggregate-put-view-2 c = sym (facts (c .before .before .before) .directions)
 
-get-state-requires : tie.Need-get-state-requires Inv-loop μ-loop
-get-state-requires c κs = search needs
+slice-aggregate-put-view-3 : tie.Need-slice-aggregate-put-view-3 Inv-loop μ-loop
+slice-aggregate-put-view-3 c = sym (facts (c .before .before .before .before) .lasts)
 
-put-corners-requires : tie.Need-put-corners-requires Inv-loop μ-loop
-put-corners-requires c κs = let f = facts (c .before .before .before .before .before .before) in (f .below, omega arith)
+slice-aggregate-put-view-4 : tie.Need-slice-aggregate-put-view-4 Inv-loop μ-loop
+slice-aggregate-put-view-4 c = sym (facts (c .before .before .before .before .before) .previous)
 
-slice-aggregate-put-direction : tie.Need-slice-aggregate-put-direction Inv-loop μ-loop
-slice-aggregate-put-direction c = sym (facts (c .before .before .before .before .before .before .before .before .before) .directions)
-
-put-direction-requires : tie.Need-put-direction-requires Inv-loop μ-loop
-put-direction-requires c κs = let f = facts (c .before .before .before .before .before .before .before .before .before) in (f .below, omega arith)
-
-slice-aggregate-put-corners-2 : tie.Need-slice-aggregate-put-corners-2 Inv-loop μ-loop
-slice-aggregate-put-corners-2 c = sym (facts (c .before .before .before .before .before .before .before .before .before .before .before .before) .lasts)
-
-detection-or-requires : tie.Need-detection-or-requires Inv-loop μ-loop
-detection-or-requires c κs = search needs
-
-corners-requires : tie.Need-corners-requires Inv-loop μ-loop
-corners-requires c κs = search needs
-
-put-corners-requires-2 : tie.Need-put-corners-requires-2 Inv-loop μ-loop
-put-corners-requires-2 c κs = let f = facts (c .before .before .before .before .before .before .before .before .before .before .before .before .before .before) in (f .below, omega arith)
-
-slice-aggregate-put-detection : tie.Need-slice-aggregate-put-detection Inv-loop μ-loop
-slice-aggregate-put-detection c = sym (facts (c .before .before .before .before .before .before .before .before .before .before .before .before .before .before .before .before .before) .previous)
-
-detection-or-requires-2 : tie.Need-detection-or-requires-2 Inv-loop μ-loop
-detection-or-requires-2 c κs = search needs
-
-put-detection-requires : tie.Need-put-detection-requires Inv-loop μ-loop
-put-detection-requires c κs = let f = facts (c .before .before .before .before .before .before .before .before .before .before .before .before .before .before .before .before .before .before) in (f .below, omega arith)
+put-view-requires : tie.Need-put-view-requires Inv-loop μ-loop
+put-view-requires c κs = let f = facts (c .before .before .before .before .before) in (f .below, c .before .before .before .before .before .before .before .before .pre .1, f .boxes, f .directions, f .lasts, f .previous)
 
 add-j : tie.Need-add-j Inv-loop μ-loop
-add-j c = let f = facts (c .before .before .before .before .before .before .before .before .before .before .before .before .before .before .before .before .before .before .before .before) in search needs
+add-j c = let f = facts (c .before .before .before .before .before .before .before .before .before .before) in search needs
 
 loop-less : tie.Need-loop-less Inv-loop μ-loop
-loop-less c = let f = facts (c .before .before .before .before .before .before .before .before .before .before .before .before .before .before .before .before .before .before .before .before) in omega arith
+loop-less c = let f = facts (c .before .before .before .before .before .before .before .before .before .before) in omega arith
 
 loop-again : tie.Need-loop-again Inv-loop μ-loop
-unfolding viewOf
 loop-again c =
-    let s = c .before .before .before .before .before .before .before .before .before .before .before .before .before .before .before .before .before .before .before .before .before .before .before in
-    let l = c .before .before .before .before .before .before .before .before .before .before .before .before .before .before .before .before .before .before .before .before .before .loop in
+    let s = c .before .before .before .before .before .before .before .before .before .before .before .before .before in
+    let l = c .before .before .before .before .before .before .before .before .before .before .before .loop in
+    let p = c .before .before .before .before .put-view in
     let f = trackedView (s .args .s) in
-    let g = facts (c .before .before .before .before .before .before .before .before .before .before .before .before .before .before .before .before .before .before .before .before) in (
+    let g = facts (c .before .before .before .before .before .before .before .before .before .before) in (
       omega arith,
-      turn f (s .args .t3) (λ (v : View). fourOf (v .box)) 4 (λ v. refl) 256 (l .j) (omega arith) (g .there) _ (l .boxes) _ _ (l .inv .1) (ap fourOf (c .before .before .before .before .before .before .before .before .before .before .before .before .before .before .get-state .ensures)) (c .before .before .before .before .before .before .before .before .before .before .before .before .before .put-corners .ensures),
-      turn f (s .args .t3) (λ (v : View). twoOf (v .direction)) 2 (λ v. refl) 128 (l .j) (omega arith) (g .there) _ (l .directions) _ _ (l .inv .2) refl (c .before .before .before .before .before .before .before .before .before .before .put-direction .ensures),
-      turn f (s .args .t3) (λ (v : View). fourOf (v .last)) 4 (λ v. refl) 256 (l .j) (omega arith) (g .there) _ (l .lasts) _ _ (l .inv .3) (ap fourOf (c .before .before .before .before .before .before .corners .ensures ∙ ap cornersOf (c .before .before .before .before .before .before .before .detection-or .ensures))) (c .before .before .before .before .before .put-corners2 .ensures),
-      turn f (s .args .t3) (λ (v : View). fiveOf (v .previous)) 5 (λ v. refl) 320 (l .j) (omega arith) (g .there) _ (l .previous) _ _ (l .inv .4) (ap fiveOf (c .before .before .detection-or2 .ensures ∙ ap detectionOr (c .before .before .before .before .before .before .before .before .before .before .before .before .before .before .before .before .k-previous-obs .ensures))) (c .before .put-detection .ensures),
+      turn f (s .args .t3) (λ (v : View). fourOf (v .box)) 4 (λ v. refl) 256 (l .j) (omega arith) (g .there) _ (l .boxes) _ _ (l .inv .1) refl (p .ensures .0),
+      turn f (s .args .t3) (λ (v : View). twoOf (v .direction)) 2 (λ v. refl) 128 (l .j) (omega arith) (g .there) _ (l .directions) _ _ (l .inv .2) refl (p .ensures .1),
+      turn f (s .args .t3) (λ (v : View). fourOf (v .last)) 4 (λ v. refl) 256 (l .j) (omega arith) (g .there) _ (l .lasts) _ _ (l .inv .3) refl (p .ensures .2),
+      turn f (s .args .t3) (λ (v : View). fiveOf (v .previous)) 5 (λ v. refl) 320 (l .j) (omega arith) (g .there) _ (l .previous) _ _ (l .inv .4) refl (p .ensures .3),
     )
 
 returns : tie.Need-returns Inv-loop μ-loop
@@ -142,19 +117,11 @@ all-spec =
     loop-holds
     mul-e
     array-copy-out-e
-    k-previous-obs-requires
-    slice-aggregate-put-corners
-    get-state-requires
-    put-corners-requires
-    slice-aggregate-put-direction
-    put-direction-requires
-    slice-aggregate-put-corners-2
-    detection-or-requires
-    corners-requires
-    put-corners-requires-2
-    slice-aggregate-put-detection
-    detection-or-requires-2
-    put-detection-requires
+    slice-aggregate-put-view
+    slice-aggregate-put-view-2
+    slice-aggregate-put-view-3
+    slice-aggregate-put-view-4
+    put-view-requires
     add-j
     loop-less
     loop-again
