@@ -1,11 +1,11 @@
 -- NaNs: `x != x` is the test for one, 0.0 / 0.0 is one, and which patterns are none. Assumes nothing.
 use mathlib.Core.Path.{_≡_, refl, sym, ap, _∙_}
-use mathlib.Core.Bool.{true, false, not}
+use mathlib.Core.Bool.{Bool, true, false, not, cond, true≢false}
 use Prim.Native.Nat.{ℕ, _*_, _%_, _^_, _≤_, _<_}
 use native.Mathlib.Omega.{arith}
 use lib.Arith.{le→nltb}
 use lib.Dec.{T, eqb, eqb-refl}
-use lib.Ieee.{Float, nan, inf, fin, Format, binary32, binary64, up, down, div, ne, fits, isNan, nanBits, ofBits, toBits}
+use lib.Ieee.{Float, nan, inf, fin, Format, binary32, binary64, up, down, div, lt, ne, fits, isNan, nanBits, ofBits, toBits}
 use lib.Ieee.Bits.{is-true, ofBits-toBits, nanBits-is, nanBits-above}
 use borrow.Author.Tests.{ltb-false}
 
@@ -45,3 +45,18 @@ pub at-most-infinity : (x : Float) → T (fits binary32 x) → isNan x ≡ false
 at-most-infinity x p h =
     let b = toBits binary32 x in
     ltb-false 0x7f80_0000 (b % 2 ^ 31) (sym (nanBits-above binary32 b) ∙ nanBits-is binary32 b ∙ ap isNan (ofBits-toBits binary32 x p) ∙ h)
+
+-- ---- the larger and the smaller of two: b where a comparison holds, which no NaN meets, or a is a NaN
+pub lt-numbers : (x y : Float) → lt x y ≡ true → (isNan x ≡ false) × (isNan y ≡ false)
+unfolding lt isNan
+lt-numbers nan y h = absurd (true≢false (sym h))
+lt-numbers (inf s) nan h = absurd (true≢false (sym h))
+lt-numbers (inf s) (inf t) h = (refl, refl)
+lt-numbers (inf s) (fin t n d) h = (refl, refl)
+lt-numbers (fin s m e) nan h = absurd (true≢false (sym h))
+lt-numbers (fin s m e) (inf t) h = (refl, refl)
+lt-numbers (fin s m e) (fin t n d) h = (refl, refl)
+
+pub pick-first : (m : Bool) (n l : Bool) (a b : Float) → n ≡ false → l ≡ false → a ≡ cond n b (cond m a (cond l b a))
+pick-first true n l a b h k = rw h
+pick-first false n l a b h k = rw (h, k)

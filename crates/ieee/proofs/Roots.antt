@@ -113,13 +113,18 @@ above a h lo hi = go (leb ((h + 1) * (h + 1)) a) (leb→le ((h + 1) * (h + 1)) a
     go true p q = sym (nearestRoot-is a (h + 1) (record { low = p tt; high = omega arith }) ∙ ap (nearest (h + 1)) (cmp-lt (4 * a) ((2 * (h + 1) + 1) * (2 * (h + 1) + 1)) (omega arith)))
     go false p q = sym (nearestRoot-is a h (record { low = omega arith; high = q tt }) ∙ (ap (nearest h) (cmp-gt (4 * a) ((2 * h + 1) * (2 * h + 1)) lo) ∙ sym (add-one h)))
 
-pub nearest-between : (a e : ℕ) → 0 < e → (2 * e - 1) * (2 * e - 1) < 4 * a → 4 * a < (2 * e + 1) * (2 * e + 1) → e ≡ nearestRoot a
-nearest-between a zero p lo hi = absurd (lt-irrefl 0 p)
-nearest-between a (suc h) p lo hi =
-    sym (add-one h) ∙ above a h (subst (λ (z : ℕ). z * z < 4 * a) (under h) lo) (subst (λ (z : ℕ). 4 * a < z * z) (over h) hi)
-  where
-    under : (h : ℕ) → 2 * suc h - 1 ≡ 2 * h + 1
-    under h = omega arith
+-- Four times the squares of the halfway points are 4 * (e * e - e) + 1 and 4 * (e * e + e) + 1.
+beside : (a h : ℕ) → (h + 1) * (h + 1) < a + (h + 1) → a ≤ (h + 1) * (h + 1) + (h + 1) → h + 1 ≡ nearestRoot a
+beside a h lo hi = above a h (omega arith) (omega arith)
 
-    over : (h : ℕ) → 2 * suc h + 1 ≡ 2 * h + 3
-    over h = omega arith
+pub nearest-beside : (a e : ℕ) → e * e < a + e → a ≤ e * e + e → e ≡ nearestRoot a
+nearest-beside a zero lo hi = absurd (no a lo hi)
+  where
+    no : (a : ℕ) → 0 < a + 0 → a ≤ 0 → ⊥
+    no a lo hi = omega arith
+nearest-beside a (suc h) lo hi =
+    let e = sym (add-one h) in
+    subst (λ (z : ℕ). z ≡ nearestRoot a) (add-one h) (beside a h (subst (λ (z : ℕ). z * z < a + z) e lo) (subst (λ (z : ℕ). a ≤ z * z + z) e hi))
+
+pub next-beside : (a e : ℕ) → e * e + e < a → a ≤ e * e + 3 * e + 2 → e + 1 ≡ nearestRoot a
+next-beside a e lo hi = beside a e (omega arith) (omega arith)

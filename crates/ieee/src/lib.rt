@@ -1,10 +1,11 @@
 // IEEE 754 on f32, as document 01's stand-ins ask for it: comparisons that know a NaN, the square root, the arc cosine, and f32 to f64.
 ghost use mathlib.Core.Path.{_≡_};
 ghost use lib.Dec.{T};
-ghost use lib.Ieee.{binary32, binary64, isNan, ofBits};
+ghost use mathlib.Core.Bool.{cond};
+ghost use lib.Ieee.{binary32, binary64, isNan, lt, neg, ofBits};
 ghost use Prim.Native.Nat.{_+_, _%_, _*_, _^_, _<_, _≤_};
 ghost use Rattle.lists.specs.Lists.{every};
-ghost use Rattle.ieee.specs.Ops.{maxOf, minOf, clampOf, absOf, π, half-π};
+ghost use Rattle.ieee.specs.Ops.{maxOf, minOf, clampOf, absOf, f32, π, half-π};
 ghost use Rattle.ieee.specs.Roots.{IsRoot, nearestRoot};
 ghost use Rattle.ieee.specs.Patterns.{Normalised, patternUnits};
 ghost use Rattle.ieee.specs.Sqrt.{rootRounded, SquareRoot};
@@ -27,30 +28,24 @@ pub fn is_nan(x: f32) -> bool
     x != x
 }
 
-// The larger of two; a NaN gives way.
+// The larger of two; a NaN gives way. The comparison comes first, since no NaN meets it: in this order the compiler selects instead of branching.
 pub fn max(a: f32, b: f32) -> f32
     ensures { λ r. ⌜ r ≡ maxOf a b ⌝ }
 {
-    if is_nan(a) {
+    if a < b {
         return b;
     }
-    if is_nan(b) {
-        return a;
-    }
-    if a < b { b } else { a }
+    if is_nan(a) { b } else { a }
 }
 
 // The smaller of two; a NaN gives way.
 pub fn min(a: f32, b: f32) -> f32
     ensures { λ r. ⌜ r ≡ minOf a b ⌝ }
 {
-    if is_nan(a) {
+    if b < a {
         return b;
     }
-    if is_nan(b) {
-        return a;
-    }
-    if b < a { b } else { a }
+    if is_nan(a) { b } else { a }
 }
 
 // x brought into lo .. hi; a NaN passes.
@@ -102,38 +97,143 @@ fn nearest_root_by_halving(a: u64) -> u64
     if 4 * a < h * h { q } else { q + 1 }
 }
 
-// About the square root of an a from 2^46 to 2^48: for t = a / 2^46 a parabola near 1/sqrt(t), three steps of Newton's, and t / sqrt(t) times 2^23.
-// Adding 2^52 leaves the nearest whole number in the lowest digits. Nothing is claimed of it but its range, since the squares decide.
-fn root_estimate(a: u64) -> u64
-    requires { ⌜ a < 2 ^ 48 ⌝ }
-    ensures { λ r. ⌜ r < 2 ^ 24 ⌝ }
-{
-    let t = a as f64 / 70368744177664.0;
-    let h = 0.5 * t;
-    let y = 1.352 - t * (0.4233 - 0.0534 * t);
-    let y = 1.5 * y - (h * y) * (y * y);
-    let y = 1.5 * y - (h * y) * (y * y);
-    let y = 1.5 * y - (h * y) * (y * y);
-    let w = t * y * 8388608.0 + 4503599627370496.0;
-    if w != w {
-        return 0;
+// 2^13 / (32 + i), rounded up. Times this and 2^-8, a number from 1 + i / 32 to 1 + (i + 1) / 32 comes to 1 or little more.
+fn step_reciprocal(i: u64) -> u32 {
+    match i {
+        0 => 256,
+        1 => 249,
+        2 => 241,
+        3 => 235,
+        4 => 228,
+        5 => 222,
+        6 => 216,
+        7 => 211,
+        8 => 205,
+        9 => 200,
+        10 => 196,
+        11 => 191,
+        12 => 187,
+        13 => 183,
+        14 => 179,
+        15 => 175,
+        16 => 171,
+        17 => 168,
+        18 => 164,
+        19 => 161,
+        20 => 158,
+        21 => 155,
+        22 => 152,
+        23 => 149,
+        24 => 147,
+        25 => 144,
+        26 => 142,
+        27 => 139,
+        28 => 137,
+        29 => 135,
+        30 => 133,
+        _ => 131,
     }
-    f64::to_bits(w) % 0x100_0000
 }
 
-// The whole number nearest to the square root of a: the estimate, if the root lies between the halfway points beside it.
-fn nearest_root(a: u64) -> u64
-    requires { ⌜ a < 2 ^ 48 ⌝ }
+// The root of what step_reciprocal divided out: the square root of 2^8 / step_reciprocal(i % 32), and of twice that for an i below 32, times 2^31.
+fn step_root(i: u64) -> u32 {
+    match i {
+        0 => 3037000500,
+        1 => 3079393385,
+        2 => 3130086394,
+        3 => 3169793094,
+        4 => 3218084345,
+        5 => 3261282040,
+        6 => 3306267366,
+        7 => 3345211787,
+        8 => 3393813052,
+        9 => 3435973837,
+        10 => 3470857714,
+        11 => 3515994301,
+        12 => 3553399548,
+        13 => 3592024591,
+        14 => 3631937201,
+        15 => 3673210539,
+        16 => 3715923725,
+        17 => 3748954808,
+        18 => 3794398344,
+        19 => 3829586716,
+        20 => 3865772592,
+        21 => 3903004006,
+        22 => 3941332297,
+        23 => 3980812404,
+        24 => 4007801271,
+        25 => 4049334000,
+        26 => 4077750728,
+        27 => 4121520326,
+        28 => 4151495414,
+        29 => 4182134172,
+        30 => 4213461458,
+        31 => 4245503451,
+        32 => 2147483648,
+        33 => 2177459945,
+        34 => 2213305315,
+        35 => 2241382192,
+        36 => 2275529262,
+        37 => 2306074646,
+        38 => 2337884075,
+        39 => 2365421939,
+        40 => 2399788223,
+        41 => 2429600400,
+        42 => 2454267026,
+        43 => 2486183413,
+        44 => 2512632917,
+        45 => 2539944947,
+        46 => 2568167423,
+        47 => 2597352081,
+        48 => 2627554864,
+        49 => 2650911367,
+        50 => 2683044799,
+        51 => 2707926736,
+        52 => 2733514014,
+        53 => 2759840599,
+        54 => 2786942794,
+        55 => 2814859445,
+        56 => 2833943457,
+        57 => 2863311531,
+        58 => 2883405191,
+        59 => 2914354971,
+        60 => 2935550559,
+        61 => 2957215433,
+        62 => 2979367169,
+        _ => 3002024280,
+    }
+}
+
+// About the square root of m * 2^23, or of m * 2^24 where odd is 0, for an m of 24 digits. Its five digits after the leading one choose a factor that brings it to 1 + t, with t = u / 2^31 below 1/16;
+// the root of that is near to 1 + t / 2 - t^2 * (0.12497 - 0.0604 * t), and is scaled back. All in whole numbers, since a float would wait longer. Over every m, 0.03 % of the estimates are one too high,
+// and 0.6 % one too low, which costs less: so a little less than a half is added before the last division.
+// Nothing is claimed of it but its range, since the squares decide.
+fn root_estimate(m: u64, odd: u64) -> u64
+    requires { ⌜ (m < 2 ^ 24) × (odd < 2) ⌝ }
+    ensures { λ r. ⌜ r < 2 ^ 25 ⌝ }
+{
+    let i = m / 0x4_0000 % 32;
+    let u = m * (step_reciprocal(i) as u64) % 0x800_0000;
+    let square = u * u / 0x8000_0000;
+    let bend = (281410109672014 - 63332 * u) / 0x10_0000;
+    let root = 2147483646 + u / 2 - square * bend / 0x8000_0000;
+    (step_root(odd * 32 + i) as u64 * root + 0x3f_0000_0000) / 0x80_0000_0000
+}
+
+// The whole number nearest to the square root of a: the estimate e or the next one, if the root lies between the halfway points beside it. The squares of those beside e are e^2 - e and e^2 + e, and a quarter.
+fn nearest_root(a: u64, e: u64) -> u64
+    requires { ⌜ (a < 2 ^ 48) × (e < 2 ^ 25) ⌝ }
     ensures { λ r. ⌜ r ≡ nearestRoot a ⌝ }
 {
-    let e = root_estimate(a);
-    if 0 < e {
-        let below = 2 * e - 1;
-        let above = 2 * e + 1;
-        if below * below < 4 * a {
-            if 4 * a < above * above {
-                return e;
-            }
+    let square = e * e;
+    if square < a + e {
+        if a <= square + e {
+            return e;
+        }
+        // one too low
+        if a <= square + 3 * e + 2 {
+            return e + 1;
         }
     }
     nearest_root_by_halving(a)
@@ -181,7 +281,7 @@ fn sqrt_scaled(m: u64, p: u64) -> u64
     ensures { λ r. ⌜ (ofBits binary32 r ≡ rootRounded (m * 2 ^ p)) × (r < 0x7f80_0000) ⌝ }
 {
     let odd = p % 2;
-    let q = nearest_root(m * 0x80_0000 * (2 - odd));
+    let q = nearest_root(m * 0x80_0000 * (2 - odd), root_estimate(m, odd));
     (p - 24 + odd) / 2 * 0x80_0000 + q
 }
 
@@ -193,17 +293,17 @@ pub fn sqrt(x: f32) -> f32
         return x;
     }
     let b = f32::to_bits(x) as u64;
-    if b == 0 {
-        return x;
-    }
-    if b == 0x8000_0000 {
-        return x;
-    }
-    if b == 0x7f80_0000 {
-        return x;
-    }
-    if 0x8000_0000 < b {
+    if 0x7f80_0000 <= b {
+        // plus infinity or -0
+        if b <= 0x8000_0000 {
+            return x;
+        }
         return 0.0 / 0.0;
+    }
+    if b < 0x80_0000 {
+        if b == 0 {
+            return x;
+        }
     }
     let s = split(b);
     f32::from_bits(sqrt_scaled(s.m, s.p) as u32)
@@ -268,12 +368,17 @@ fn acos_upper(c: f32) -> f32
     sqrt(1.0 - c) * acos_polynomial(c)
 }
 
-// The arc cosine by Abramowitz and Stegun 4.4.46.
+// c or -c: the one that isn't below zero, or a NaN.
+fn folded(c: f32) -> f32
+    ensures { λ r. ⌜ r ≡ cond (lt c (f32 0)) (neg c) c ⌝ }
+{
+    if c < 0.0 { -c } else { c }
+}
+
+// The arc cosine by Abramowitz and Stegun 4.4.46. Both signs share the costly part, so that the compiler selects instead of branching.
 pub fn acos(c: f32) -> f32
     ensures { λ r. ⌜ r ≡ acosOf c ⌝ }
 {
-    if c < 0.0 {
-        return PI - acos_upper(-c);
-    }
-    acos_upper(c)
+    let upper = acos_upper(folded(c));
+    if c < 0.0 { PI - upper } else { upper }
 }

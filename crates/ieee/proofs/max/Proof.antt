@@ -1,31 +1,28 @@
 -- `ieee::max` meets its contract: each way returns what the definition picks under the tests that led there. Assumes nothing.
 use borrow.Author.Needs.{needs}
 use mathlib.Core.Path.{sym, _∙_}
+use lib.Ieee.{isNan}
 use Rattle.ieee.specs.Ops.{maxOf}
+use Rattle.ieee.proofs.Nans.{lt-numbers, pick-first}
 use Rattle.ieee.proofs.max.Statement.{statement}
 use Rattle.ieee.proofs.max.Tie as tie
+
+returns : tie.Need-returns
+unfolding maxOf
+returns c =
+    let h = lt-numbers _ _ (c .if1 .taken) in
+    simp (h .0, h .1, c .if1 .taken)
 
 is-nan-requires : tie.Need-is-nan-requires
 is-nan-requires c κs = search needs
 
-returns : tie.Need-returns
-unfolding maxOf
-returns c = simp (sym (c .before .is-nan .ensures) ∙ c .if1 .taken)
-
-is-nan-requires-2 : tie.Need-is-nan-requires-2
-is-nan-requires-2 c κs = search needs
-
 returns-2 : tie.Need-returns-2
 unfolding maxOf
-returns-2 c = simp (sym (c .before .before .before .is-nan .ensures) ∙ c .before .before .if1 .left, sym (c .before .is-nan2 .ensures) ∙ c .if2 .taken)
+returns-2 c = simp (sym (c .before .is-nan .ensures) ∙ c .if2 .taken)
 
 returns-3 : tie.Need-returns-3
 unfolding maxOf
-returns-3 c = simp (sym (c .before .before .before .before .is-nan .ensures) ∙ c .before .before .before .if1 .left, sym (c .before .before .is-nan2 .ensures) ∙ c .before .if2 .left, c .if3 .taken)
-
-returns-4 : tie.Need-returns-4
-unfolding maxOf
-returns-4 c = simp (sym (c .before .before .before .before .is-nan .ensures) ∙ c .before .before .before .if1 .left, sym (c .before .before .is-nan2 .ensures) ∙ c .before .if2 .left, c .if3 .left)
+returns-3 c = pick-first (isNan (c .before .before .before .args .b)) _ _ _ _ (sym (c .before .is-nan .ensures) ∙ c .if2 .left) (c .before .before .if1 .left)
 
 pub max-spec : {M : Type 1} → statement M
-max-spec = tie.close (tie.spec is-nan-requires returns is-nan-requires-2 returns-2 returns-3 returns-4)
+max-spec = tie.close (tie.spec returns is-nan-requires returns-2 returns-3)

@@ -36,6 +36,9 @@ room m o h = omega (arith, mul-le-mul-left (m * 2 ^ 23) (less o))
     less : (o : ℕ) → 2 - o ≤ 2
     less o = omega arith
 
+under : (n : ℕ) → n + 2 ^ 24 ≤ 2 ^ 48 → n < 2 ^ 48
+under n h = omega arith
+
 small : (n r : ℕ) → n + 2 ^ 24 ≤ 2 ^ 48 → r ≡ nearestRoot n → r < 2 ^ 24
 small n r h e = subst (λ (z : ℕ). z < 2 ^ 24) (sym e) (rounded-small n h)
 
@@ -48,8 +51,11 @@ sub-nearest-root c = search needs
 mul-nearest-root-2 : tie.Need-mul-nearest-root-2
 mul-nearest-root-2 c = omega (arith, room (c .args .m) (c .args .p % 2) (c .pre .digits))
 
+root-estimate-requires : tie.Need-root-estimate-requires
+root-estimate-requires c κs = search needs
+
 nearest-root-requires : tie.Need-nearest-root-requires
-nearest-root-requires c κs = omega (arith, room (c .args .m) (c .args .p % 2) (c .pre .digits))
+nearest-root-requires c κs = (under _ (room (c .before .args .m) (c .before .args .p % 2) (c .before .pre .digits)), c .root-estimate .ensures)
 
 sub-result : tie.Need-sub-result
 sub-result c = search needs
@@ -61,10 +67,10 @@ mul-result : tie.Need-mul-result
 mul-result c = search needs
 
 add-result-2 : tie.Need-add-result-2
-add-result-2 c = omega (arith, small _ (c .nearest-root .result) (room (c .before .args .m) (c .before .args .p % 2) (c .before .pre .digits)) (c .nearest-root .ensures))
+add-result-2 c = omega (arith, small _ (c .nearest-root .result) (room (c .before .before .args .m) (c .before .before .args .p % 2) (c .before .before .pre .digits)) (c .nearest-root .ensures))
 
 returns : tie.Need-returns
-returns c = parity _ _ _ _ (c .before .pre) refl (c .nearest-root .ensures)
+returns c = parity _ _ _ _ (c .before .before .pre) refl (c .nearest-root .ensures)
 
 pub sqrt-scaled-spec : {M : Type 1} → statement M
 sqrt-scaled-spec =
@@ -73,6 +79,7 @@ sqrt-scaled-spec =
     mul-nearest-root
     sub-nearest-root
     mul-nearest-root-2
+    root-estimate-requires
     nearest-root-requires
     sub-result
     add-result
