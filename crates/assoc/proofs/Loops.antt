@@ -53,6 +53,9 @@ not-both a b x e h = rw (sym e, ne-eqb x 1 h)
 pub few-cells : (nd nt : ℕ) → nd ≤ 64 → nt ≤ 64 → nd * nt ≤ 4096
 few-cells nd nt h g = mul-le-mul h g
 
+pub small-square : (n : ℕ) → n ≤ 16 → n * n ≤ 256
+small-square n h = mul-le-mul h h
+
 pub some-column : (nd nt q : ℕ) → q < nd * nt → 0 < nt
 some-column nd zero q h = omega (arith, mul-zero nd)
 some-column nd (suc n) q h = omega arith

@@ -123,9 +123,14 @@ pub fn assigned(m: &[f32], nd: usize, nt: usize) -> Marks
 {
     let n = larger(nd, nt);
     let size = n * n;
-    let mut cost = [0.0f64; 4096];
     let mut x = [0i64; 64];
     let mut y = [0i64; 64];
+    // Few rows, few cells to zero.
+    if n <= 16 {
+        let mut few = [0.0f64; 256];
+        return assigned_in(m, nd, nt, n, &mut few[..size], &mut x[..n], &mut y[..n]);
+    }
+    let mut cost = [0.0f64; 4096];
     assigned_in(m, nd, nt, n, &mut cost[..size], &mut x[..n], &mut y[..n])
 }
 
@@ -236,6 +241,10 @@ pub fn match_or_lapjv(
     if is_shortcut(iou, nd, nt, thr) {
         return shortcut_marks(iou, nd, nt, thr);
     }
+    if nd * nt <= 256 {
+        let mut few = [0.0f32; 256];
+        return assigned_combined(inertia, dets, nd, directions, previous, nt, iou, &mut few);
+    }
     let mut combined = [0.0f32; 4096];
     assigned_combined(
         inertia,
@@ -283,6 +292,20 @@ pub fn associate(
     requires { ⌜ (nd ≤ 64) × (nt ≤ 64) × (nd * 5 ≤ length (now dets)) × (nt * 4 ≤ length (now boxes)) × (nt * 2 ≤ length (now directions)) × (nt * 5 ≤ length (now previous)) ⌝ }
     ensures { λ r. ⌜ Round nd nt thr (overlaps (detAt (now (dets .entry))) (cornersAt (now (boxes .entry)))) (associate thr inertia nd nt (detAt (now (dets .entry))) (cornersAt (now (boxes .entry))) (stepAt (now (directions .entry))) (detAt (now (previous .entry)))) (r .at) ⌝ }
 {
+    if nd * nt <= 256 {
+        let mut few = [0.0f32; 256];
+        return associate_in(
+            thr,
+            inertia,
+            dets,
+            nd,
+            boxes,
+            directions,
+            previous,
+            nt,
+            &mut few,
+        );
+    }
     let mut iou = [0.0f32; 4096];
     associate_in(
         thr,
@@ -322,6 +345,10 @@ pub fn simple_iou_match(thr: f32, dets: &[f32], nd: usize, boxes: &[f32], nt: us
     requires { ⌜ (nd ≤ 64) × (nt ≤ 64) × (nd * 5 ≤ length (now dets)) × (nt * 4 ≤ length (now boxes)) ⌝ }
     ensures { λ r. ⌜ Round nd nt thr (overlaps (detAt (now (dets .entry))) (cornersAt (now (boxes .entry)))) (reassociate thr nd nt (detAt (now (dets .entry))) (cornersAt (now (boxes .entry)))) (r .at) ⌝ }
 {
+    if nd * nt <= 256 {
+        let mut few = [0.0f32; 256];
+        return simple_iou_match_in(thr, dets, nd, boxes, nt, &mut few);
+    }
     let mut iou = [0.0f32; 4096];
     simple_iou_match_in(thr, dets, nd, boxes, nt, &mut iou)
 }
