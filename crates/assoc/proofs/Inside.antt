@@ -5,7 +5,7 @@ use mathlib.Core.Path.{_≡_, refl, ap, ap₂, _∙_}
 use mathlib.Core.Bool.{Bool, true, false, not, _&&_}
 use mathlib.Core.List.{List, _++_}
 use Prim.Native.Nat.{ℕ, zero, suc, _+_, _*_, _/_, _%_, _<_}
-use native.Mathlib.Nat.{div-eq-of-lt, mod-eq-of-lt, add-zero, lt-suc-self, mul-add-div-right, mul-add-mod-self-right}
+use native.Mathlib.Nat.{lt-suc-self}
 use native.Mathlib.Omega.{arith}
 use lib.Dec.{ltb}
 use lib.IntN.{ℤ, pos, negsuc}
@@ -23,17 +23,12 @@ use Rattle.assoc.specs.Paired.{Paired}
 use Rattle.assoc.specs.Matching.{Matrix, aboveOf, countOf, fullest, shortcut, passing, larger, costsOf, someAbove, assigned, keptWhere}
 use Rattle.assoc.specs.Cells.{overlapCells, entryAt}
 use Rattle.assoc.proofs.Loops.{cell-inside}
+use Rattle.assoc.proofs.Rows.{row-of, column-of}
 
 abbrev pub Same : ℕ → ℕ → Matrix → Matrix → Type 0
 Same nd nt m m′ = (i j : ℕ) → i < nd → j < nt → m i j ≡ m′ i j
 
 -- ---- a matrix read back from its cells
-
-row-of : (nt i j : ℕ) → j < nt → (i * nt + j) / nt ≡ i
-row-of nt i j h = mul-add-div-right (omega arith) i j ∙ ap (λ (k : ℕ). i + k) (div-eq-of-lt h) ∙ add-zero i
-
-column-of : (nt i j : ℕ) → j < nt → (i * nt + j) % nt ≡ j
-column-of nt i j h = mul-add-mod-self-right i nt j ∙ mod-eq-of-lt h
 
 pub entry-cells : (nd nt : ℕ) (m : Matrix) (rest : List Float) → Same nd nt (entryAt nt (overlapCells nd nt m ++ rest)) m
 unfolding overlapCells

@@ -3,6 +3,7 @@ pub mod AtOrAbove
 pub mod Counts
 pub mod Matching
 pub mod Loops
+pub mod Rows
 pub mod Inside
 pub mod Marking
 pub mod Split

@@ -2,6 +2,7 @@ pub mod Overlap
 pub mod Angle
 pub mod Matching
 pub mod Associate
+pub mod Passes
 pub mod Paired
 pub mod Cells
 pub mod Split

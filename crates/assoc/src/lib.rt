@@ -10,7 +10,8 @@ ghost use Prim.Native.Nat.{_+_, _*_, _≤_};
 ghost use lib.ListN.{length};
 ghost use Rattle.object.specs.Object.{cornersOf};
 ghost use Rattle.assoc.specs.Overlap.{areaOf, sideOf, interOf, overlapOf};
-ghost use Rattle.assoc.specs.Angle.{centreOf, angleOf, maskOf};
+ghost use Rattle.assoc.specs.Angle.{centreOf, angleOf, cosineOf, maskOf, termOf};
+ghost use Rattle.assoc.specs.Passes.{unitOf};
 ghost use Rattle.assoc.specs.Associate.{angleTerm, detAt, cornersAt, overlaps};
 
 // ---- one object and one track
@@ -69,15 +70,32 @@ fn mask(score: f32) -> f32
     1.0
 }
 
+// The cosine between a track's direction and a step, over the step's length plus 1e-6.
+fn cosine(dy: f32, dx: f32, to_x: f32, to_y: f32) -> f32
+    ensures { λ r. ⌜ r ≡ cosineOf (record { dy = dy; dx = dx }) (unitOf «to_x» «to_y») ⌝ }
+{
+    let norm = ieee::sqrt(to_x * to_x + to_y * to_y) + 1e-6;
+    dx * (to_x / norm) + dy * (to_y / norm)
+}
+
+fn term(mask: f32, angle: f32, inertia: f32, score: f32) -> f32
+    ensures { λ r. ⌜ r ≡ termOf mask angle inertia score ⌝ }
+{
+    mask * angle * inertia * score
+}
+
 // The angle term of an object d and a track that heads dy, dx and was at p before.
 pub fn angle_term(inertia: f32, d: Detection, dy: f32, dx: f32, p: Detection) -> f32
     ensures { λ r. ⌜ r ≡ angleTerm inertia d (record { dy = dy; dx = dx }) p ⌝ }
 {
     let to_x = centre(d.x1, d.x2) - centre(p.x1, p.x2);
     let to_y = centre(d.y1, d.y2) - centre(p.y1, p.y2);
-    let norm = ieee::sqrt(to_x * to_x + to_y * to_y) + 1e-6;
-    let cosine = dx * (to_x / norm) + dy * (to_y / norm);
-    mask(p.score) * angle(cosine) * inertia * d.score
+    term(
+        mask(p.score),
+        angle(cosine(dy, dx, to_x, to_y)),
+        inertia,
+        d.score,
+    )
 }
 
 // ---- entries of the lent slices

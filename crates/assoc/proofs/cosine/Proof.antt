@@ -1,0 +1,21 @@
+-- `assoc::cosine` meets its contract. Assumes nothing.
+use lib.Ieee.{ofBits}
+use Rattle.assoc.specs.Angle.{cosineOf}
+use Rattle.assoc.specs.Passes.{unitOf}
+use borrow.Author.Needs.{needs}
+use Rattle.assoc.proofs.cosine.Statement.{statement}
+use Rattle.assoc.proofs.cosine.Tie as tie
+
+sqrt-requires : tie.Need-sqrt-requires
+sqrt-requires c κs = search needs
+
+returns : tie.Need-returns
+unfolding cosineOf unitOf
+returns c = rw (c .sqrt .ensures .is)
+
+pub cosine-spec : {M : Type 1} → statement M
+cosine-spec =
+    tie.close
+    (tie.spec
+    sqrt-requires
+    returns)
