@@ -1,22 +1,21 @@
--- One more turn of the loops over a matrix of overlaps: a count, the largest count, the last that passes, and a matrix filled row after row.
+-- One more turn of the loops over a matrix of overlaps: a count, the largest count, the last that passes, and a list filled from its front.
 -- Assumes nothing.
 use mathlib.Core.Path.{_≡_, refl, sym, ap, _∙_}
 use mathlib.Core.Bool.{Bool, true, false, _&&_}
 use mathlib.Core.List.{List, _++_}
-use Prim.Native.Nat.{ℕ, zero, suc, _+_, _-_, _*_, _/_, _%_, _≤_, _<_}
-use native.Mathlib.Nat.{div-add-mod', div-lt-iff-lt-mul, mod-lt, mul-le-mul, mul-le-mul-right, mul-zero, sub-zero, suc-mul, suc-sub-suc, zero-sub}
+use Prim.Native.Nat.{ℕ, zero, suc, _+_, _-_, _*_, _≤_, _<_}
+use native.Mathlib.Nat.{mul-le-mul, mul-le-mul-right, sub-zero, suc-mul, suc-sub-suc, zero-sub}
 use native.Mathlib.Numerals.{add-one}
 use native.Mathlib.Omega.{arith}
 use borrow.Author.Tests.{eq-eqb, ne-eqb}
 use lib.Dec.{eqb}
 use lib.IntN.{ℤ, pos}
 use lib.Ieee.{Float, nan}
-use lib.ListN.{length, getD, set, drop, replicate, length-set, length-replicate}
+use lib.ListN.{length, set, drop, replicate, length-set, length-replicate}
 use Rattle.lists.specs.Lists.{pick, tab}
 use Rattle.lists.proofs.Tab.{tab-fill}
 use Rattle.lapjv_walk.specs.Marks.{free}
 use Rattle.assoc.specs.Matching.{countOf, fullest, larger, passing}
-use Rattle.assoc.specs.Cells.{entryAt}
 
 -- ---- over the first so many of a row or of a column
 
@@ -56,26 +55,12 @@ few-cells nd nt h g = mul-le-mul h g
 pub small-square : (n : ℕ) → n ≤ 16 → n * n ≤ 256
 small-square n h = mul-le-mul h h
 
-pub some-column : (nd nt q : ℕ) → q < nd * nt → 0 < nt
-some-column nd zero q h = omega (arith, mul-zero nd)
-some-column nd (suc n) q h = omega arith
-
-pub in-row : (nd nt q : ℕ) → q < nd * nt → q / nt < nd
-in-row nd nt q l = div-lt-iff-lt-mul (some-column nd nt q l) .1 l
-
-pub in-column : (nd nt q : ℕ) → q < nd * nt → q % nt < nt
-in-column nd nt q l = mod-lt q (some-column nd nt q l)
-
 -- row i ends within nd rows
 pub row-ends : (nd nt i : ℕ) → i < nd → i * nt + nt ≤ nd * nt
 row-ends nd nt i h = omega (arith, mul-le-mul-right nt h, suc-mul i nt)
 
 pub cell-inside : (nd nt i j : ℕ) → i < nd → j < nt → i * nt + j < nd * nt
 cell-inside nd nt i j h g = omega (arith, row-ends nd nt i h)
-
--- a place is its row's and its column's
-pub cell-of : (cells : List Float) (nt q : ℕ) → getD cells q nan ≡ entryAt nt cells (q / nt) (q % nt)
-cell-of cells nt q = ap (λ (p : ℕ). getD cells p nan) (sym (div-add-mod' q nt))
 
 -- ---- n cells of l, written over from the front; the first q are done
 

@@ -1,5 +1,5 @@
 -- Marks and costs as the loops of the assignment fill them. Assumes nothing.
-use mathlib.Core.Path.{_≡_, sym, ap, _∙_}
+use mathlib.Core.Path.{_≡_, refl, sym, ap, _∙_}
 use mathlib.Core.Bool.{Bool, true, false, not, _&&_}
 use mathlib.Core.List.{List, _++_, append-nil}
 use Prim.Native.Nat.{ℕ, _+_, _-_, _*_, _/_, _%_, _≤_, _<_}
@@ -18,7 +18,8 @@ use Rattle.lapjv_walk.specs.Ops.{floats}
 use Rattle.lapjv_walk.specs.Lapjv.{lapjv}
 use Rattle.lapjv.specs.Answer.{fits}
 use Rattle.assoc.proofs.Matching.{larger-left}
-use Rattle.assoc.proofs.Loops.{Filling, filling-none, filling-more, filling-done, marks-turn, marks-done}
+use Rattle.assoc.proofs.Loops.{Filling, marks-turn, marks-done}
+use Rattle.assoc.proofs.Rows.{rows-none, rows-more, rows-done}
 use Rattle.assoc.specs.Matching.{Matrix, larger, costsOf, within, assigned, keptWhere}
 
 -- ---- one mark
@@ -38,28 +39,33 @@ within-past nt m k e h l = kept-by m (ltb (index m) nt) false e (le-ltb (index m
 
 -- ---- the costs
 
--- place q of a square of n rows
-abbrev pub costIn : ℕ → ℕ → ℕ → Matrix → ℕ → Float
-costIn nd nt n m q = pick (ltb (q / n) nd && ltb (q % n) nt) (neg (m (q / n) (q % n))) (ofBits binary64 0x40f8_6a00_0000_0000)
+-- row i, column j
+abbrev pub costEntry : ℕ → ℕ → Matrix → Matrix
+costEntry nd nt m i j = pick (ltb i nd && ltb j nt) (neg (m i j)) (ofBits binary64 0x40f8_6a00_0000_0000)
 
--- the first q places of a list are costs
-pub record Costed (nd nt n : ℕ) (m : Matrix) (l out : List Float) (q : ℕ) : Type 0 where
+-- place q of a square of n rows
+abbrev costIn : ℕ → ℕ → ℕ → Matrix → ℕ → Float
+costIn nd nt n m q = costEntry nd nt m (q / n) (q % n)
+
+-- the first i rows of a list are costs
+pub record Costed (nd nt n : ℕ) (m : Matrix) (l out : List Float) (i : ℕ) : Type 0 where
   pub most : n ≤ 64
   pub room : n * n ≤ length l
-  pub filled : Filling (costIn nd nt n m) l (n * n) out q
+  pub filled : Filling (λ q. costEntry nd nt m (q / n) (q % n)) l (n * n) out (i * n)
 
 pub larger-most : (nd nt n : ℕ) → n ≡ larger nd nt → nd ≤ 64 → nt ≤ 64 → n ≤ 64
 larger-most nd nt n e h l = rw e (pick-ind (λ (k : ℕ). k ≤ 64) (ltb nd nt) nt nd l h)
 
 pub costed-none : (nd nt n : ℕ) (m : Matrix) (l : List Float) → n ≡ larger nd nt → nd ≤ 64 → nt ≤ 64 → larger nd nt * larger nd nt ≤ length l → Costed nd nt n m l l 0
-costed-none nd nt n m l e h k r = record { most = larger-most nd nt n e h k; room = rw (sym e) at r; filled = filling-none (costIn nd nt n m) l (n * n) }
+costed-none nd nt n m l e h k r = record { most = larger-most nd nt n e h k; room = rw (sym e) at r; filled = rows-none (costEntry nd nt m) l n n }
 
-pub costed-more : (nd nt n : ℕ) (m : Matrix) (l out : List Float) (q : ℕ) (v : Float) → Costed nd nt n m l out q → q < n * n → v ≡ costIn nd nt n m q → Costed nd nt n m l (set out q v) (q + 1)
-costed-more nd nt n m l out q v p h e = record { most = p .most; room = p .room; filled = filling-more (costIn nd nt n m) l (n * n) out q v (p .filled) (p .room) h e }
+pub costed-more : (nd nt n : ℕ) (m : Matrix) (l out ys : List Float) (i k : ℕ) → Costed nd nt n m l out i → i < n → length out ≤ i * n + k → ys ≡ tab (costEntry nd nt m i) n ++ drop n (take k (drop (i * n) out))
+    → Costed nd nt n m l (take (i * n) out ++ (ys ++ drop k (drop (i * n) out))) (i + 1)
+costed-more nd nt n m l out ys i k p h r e = record { most = p .most; room = p .room; filled = rows-more (costEntry nd nt m) l n n i out ys k (costEntry nd nt m i) (p .filled) h (p .room) r e (λ j _. refl) }
 
-pub costed-all : (nd nt n : ℕ) (m : Matrix) (l out : List Float) (q : ℕ) → Costed nd nt n m l out q → n * n ≤ q → n ≡ larger nd nt → out ≡ costsOf nd nt m ++ drop (larger nd nt * larger nd nt) l
+pub costed-all : (nd nt n : ℕ) (m : Matrix) (l out : List Float) (i : ℕ) → Costed nd nt n m l out i → n ≤ i → n ≡ larger nd nt → out ≡ costsOf nd nt m ++ drop (larger nd nt * larger nd nt) l
 unfolding costsOf neg ofBits
-costed-all nd nt n m l out q p h e = filling-done (costIn nd nt n m) l (n * n) out q (p .filled) h ∙ ap (λ (k : ℕ). tab (costIn nd nt k m) (k * k) ++ drop (k * k) l) e
+costed-all nd nt n m l out i p h e = rows-done (costEntry nd nt m) l n n i out (p .filled) h ∙ ap (λ (k : ℕ). tab (costIn nd nt k m) (k * k) ++ drop (k * k) l) e
 
 -- ---- the assignment
 

@@ -1,7 +1,7 @@
 -- A matrix filled row by row, each row in the rest of the list, and a row of overlaps plus angle terms from its passes. Assumes nothing.
-use mathlib.Core.Path.{_≡_, refl, sym, ap, ap₂, _∙_}
+use mathlib.Core.Path.{_≡_, sym, ap, ap₂, _∙_}
 use mathlib.Core.List.{List, [], _++_, append-assoc, append-nil}
-use Prim.Native.Nat.{ℕ, _+_, _-_, _*_, _/_, _%_, _≤_, _<_}
+use Prim.Native.Nat.{ℕ, _+_, _*_, _/_, _%_, _≤_, _<_}
 use native.Mathlib.Nat.{div-eq-of-lt, mod-eq-of-lt, add-zero, mul-add-div-right, mul-add-mod-self-right, mul-le-mul-right, suc-mul, zero-mul}
 use native.Mathlib.Numerals.{add-one}
 use native.Mathlib.Omega.{arith}
@@ -12,7 +12,7 @@ use Rattle.lists.specs.Lists.{tab}
 use Rattle.lists.proofs.Tab.{length-tab, getD-tab, tab-ext, tab-append, filled-length}
 use Rattle.object.specs.declared.Detection.{Detection}
 use Rattle.object.specs.Object.{cornersOf}
-use Rattle.assoc.specs.Angle.{Step, stepTo, angleOf, cosineOf, maskOf, termOf}
+use Rattle.assoc.specs.Angle.{stepTo, angleOf, cosineOf, maskOf, termOf}
 use Rattle.assoc.specs.Passes.{unitOf, centreX, centreY, Centred}
 use Rattle.assoc.specs.Associate.{angleTerm, detAt, stepAt}
 use Rattle.assoc.specs.Matching.{Matrix}

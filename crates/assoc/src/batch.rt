@@ -7,6 +7,7 @@ ghost use lib.Ieee.{binary32, nan, add, sub};
 ghost use lib.ListN.{length, getD, drop, replicate};
 ghost use Rattle.lists.specs.Lists.{pick, tab};
 ghost use Rattle.lapjv_walk.specs.Marks.{free};
+ghost use Rattle.assoc.specs.Overlap.{overlapOf};
 ghost use Rattle.assoc.specs.Angle.{angleOf, cosineOf, maskOf, termOf};
 ghost use Rattle.assoc.specs.Passes.{unitOf, centreX, centreY, Centred};
 ghost use Rattle.assoc.specs.Associate.{angleTerm, detAt, cornersAt, stepAt, overlaps};
@@ -15,28 +16,41 @@ ghost use Rattle.assoc.specs.Cells.{overlapCells, entryAt};
 use crate::Marks;
 use crate::angle;
 use crate::centre;
+use crate::corners;
+use crate::corners_at;
 use crate::cosine;
 use crate::detection_at;
 use crate::mask;
-use crate::overlap_at;
+use crate::overlap;
 use crate::term;
+use object::Corners;
 use object::Detection;
 
 // ---- the matrices
+
+// The overlaps of one object and all boxes; cells past them stay.
+fn overlap_row(d: Corners, boxes: &[f32], nt: usize, out: &mut [f32])
+    requires { ⌜ (nt ≤ 64) × ((nt * 4 ≤ length (now boxes)) × (nt ≤ length (now out))) ⌝ }
+    ensures { λ _. ⌜ now (out .exit) ≡ tab (λ j. overlapOf d (cornersAt (now (boxes .entry)) j)) nt ++ drop nt (now (out .entry)) ⌝ }
+{
+    let mut j = 0;
+    while j < nt {
+        out[j] = overlap(d, corners_at(boxes, j));
+        j += 1;
+    }
+}
 
 // The overlaps of all objects and all boxes; cells past them stay.
 pub fn iou_batch(dets: &[f32], nd: usize, boxes: &[f32], nt: usize, out: &mut [f32])
     requires { ⌜ (nd * 5 ≤ length (now dets)) × ((nt * 4 ≤ length (now boxes)) × ((nd ≤ 64) × ((nt ≤ 64) × (nd * nt ≤ length (now out))))) ⌝ }
     ensures { λ _. ⌜ now (out .exit) ≡ overlapCells nd nt (overlaps (detAt (now (dets .entry))) (cornersAt (now (boxes .entry)))) ++ drop (nd * nt) (now (out .entry)) ⌝ }
 {
-    let n = nd * nt;
-    let mut q = 0;
-    while q < n {
-        // nt is above 0: with no track there is no turn.
-        let i = q / nt;
-        let j = q % nt;
-        out[q] = overlap_at(dets, boxes, i, j);
-        q += 1;
+    let mut i = 0;
+    while i < nd {
+        let from = i * nt;
+        let d = corners(detection_at(dets, i));
+        overlap_row(d, boxes, nt, &mut out[from..]);
+        i += 1;
     }
 }
 

@@ -9,7 +9,7 @@ use crate::batch::speed_direction_batch;
 ghost use mathlib.Core.Path.{_≡_};
 ghost use mathlib.Core.Bool.{false, not, _&&_};
 ghost use mathlib.Core.List.{_++_};
-ghost use Prim.Native.Nat.{ℕ, _+_, _-_, _*_, _/_, _%_, _≤_, _<_};
+ghost use Prim.Native.Nat.{ℕ, _+_, _-_, _*_, _≤_, _<_};
 ghost use lib.Dec.{ltb};
 ghost use lib.IntN.{pos};
 ghost use lib.Ieee.{binary32, binary64, add, neg, ofBits, lt, le};
@@ -33,13 +33,11 @@ fn larger(a: usize, b: usize) -> usize
     if a < b { b } else { a }
 }
 
-// The cost at place q of a square of n rows.
-fn cost(m: &[f32], nd: usize, nt: usize, n: usize, q: usize) -> f64
-    requires { ⌜ (nd ≤ 64) × (nt ≤ 64) × (nd * nt ≤ length (now m)) × (0 < n) ⌝ }
-    ensures { λ r. ⌜ r ≡ pick (ltb (q / n) nd && ltb (q % n) nt) (neg (entryAt nt (now (m .entry)) (q / n) (q % n))) (ofBits binary64 0x40f8_6a00_0000_0000) ⌝ }
+// The cost of row i, column j.
+fn cost(m: &[f32], nd: usize, nt: usize, i: usize, j: usize) -> f64
+    requires { ⌜ (nd ≤ 64) × (nt ≤ 64) × (nd * nt ≤ length (now m)) ⌝ }
+    ensures { λ r. ⌜ r ≡ pick (ltb i nd && ltb j nt) (neg (entryAt nt (now (m .entry)) i j)) (ofBits binary64 0x40f8_6a00_0000_0000) ⌝ }
 {
-    let i = q / n;
-    let j = q % n;
     if nd <= i {
         return FILLED;
     }
@@ -49,17 +47,29 @@ fn cost(m: &[f32], nd: usize, nt: usize, n: usize, q: usize) -> f64
     -ieee::widen(m[i * nt + j])
 }
 
+// The n costs of row i; cells past them stay.
+fn cost_row(m: &[f32], nd: usize, nt: usize, n: usize, i: usize, out: &mut [f64])
+    requires { ⌜ (nd ≤ 64) × (nt ≤ 64) × (nd * nt ≤ length (now m)) × (n ≤ 64) × (n ≤ length (now out)) ⌝ }
+    ensures { λ _. ⌜ now (out .exit) ≡ tab (λ j. pick (ltb i nd && ltb j nt) (neg (entryAt nt (now (m .entry)) i j)) (ofBits binary64 0x40f8_6a00_0000_0000)) n ++ drop n (now (out .entry)) ⌝ }
+{
+    let mut j = 0;
+    while j < n {
+        out[j] = cost(m, nd, nt, i, j);
+        j += 1;
+    }
+}
+
 // The costs of a square, row after row; cells past them stay.
 fn costs(m: &[f32], nd: usize, nt: usize, out: &mut [f64])
     requires { ⌜ (nd ≤ 64) × (nt ≤ 64) × (nd * nt ≤ length (now m)) × (larger nd nt * larger nd nt ≤ length (now out)) ⌝ }
     ensures { λ _. ⌜ now (out .exit) ≡ costsOf nd nt (entryAt nt (now (m .entry))) ++ drop (larger nd nt * larger nd nt) (now (out .entry)) ⌝ }
 {
     let n = larger(nd, nt);
-    let size = n * n;
-    let mut q = 0;
-    while q < size {
-        out[q] = cost(m, nd, nt, n, q);
-        q += 1;
+    let mut i = 0;
+    while i < n {
+        let from = i * n;
+        cost_row(m, nd, nt, n, i, &mut out[from..]);
+        i += 1;
     }
 }
 

@@ -12,7 +12,7 @@ ghost use Rattle.object.specs.Object.{cornersOf};
 ghost use Rattle.assoc.specs.Overlap.{areaOf, sideOf, interOf, overlapOf};
 ghost use Rattle.assoc.specs.Angle.{centreOf, angleOf, cosineOf, maskOf, termOf};
 ghost use Rattle.assoc.specs.Passes.{unitOf};
-ghost use Rattle.assoc.specs.Associate.{angleTerm, detAt, cornersAt, overlaps};
+ghost use Rattle.assoc.specs.Associate.{angleTerm, detAt, cornersAt};
 
 // ---- one object and one track
 
@@ -136,14 +136,6 @@ fn corners(d: Detection) -> Corners
         x2: d.x2,
         y2: d.y2,
     }
-}
-
-// The overlap of object i and box j.
-fn overlap_at(dets: &[f32], boxes: &[f32], i: usize, j: usize) -> f32
-    requires { ⌜ (i * 5 + 5 ≤ length (now dets)) × (j * 4 + 4 ≤ length (now boxes)) ⌝ }
-    ensures { λ r. ⌜ r ≡ overlaps (detAt (now (dets .entry))) (cornersAt (now (boxes .entry))) i j ⌝ }
-{
-    overlap(corners(detection_at(dets, i)), corners_at(boxes, j))
 }
 
 // For each object its track's index, or -1; cells past the objects are -1.

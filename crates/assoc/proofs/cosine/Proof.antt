@@ -1,5 +1,4 @@
 -- `assoc::cosine` meets its contract. Assumes nothing.
-use lib.Ieee.{ofBits}
 use Rattle.assoc.specs.Angle.{cosineOf}
 use Rattle.assoc.specs.Passes.{unitOf}
 use borrow.Author.Needs.{needs}

@@ -1,8 +1,7 @@
 -- `assoc::batch::centres` meets its contract. Assumes nothing.
 use mathlib.Core.Path.{_∙_, ap}
-use Prim.Native.Nat.{_-_, _*_}
+use Prim.Native.Nat.{_-_}
 use native.Mathlib.Omega.{arith}
-use Rattle.object.specs.declared.Detection.{Detection}
 use Rattle.assoc.specs.Associate.{detAt}
 use Rattle.assoc.specs.Passes.{centreX, centreY}
 use Rattle.assoc.proofs.Loops.{Filling, filling-none, filling-more, filling-done}

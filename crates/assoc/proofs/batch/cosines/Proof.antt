@@ -1,5 +1,5 @@
 -- `assoc::batch::cosines` meets its contract. Assumes nothing.
-use Prim.Native.Nat.{_-_, _*_}
+use Prim.Native.Nat.{_-_}
 use native.Mathlib.Omega.{arith}
 use lib.Ieee.{binary32, nan, sub}
 use lib.ListN.{getD}

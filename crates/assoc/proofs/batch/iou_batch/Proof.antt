@@ -1,55 +1,74 @@
 -- `assoc::batch::iou_batch` meets its contract. Assumes nothing.
-use borrow.Author.Needs.{needs}
-use Prim.Native.Nat.{_-_, _*_, _/_, _%_}
+use mathlib.Core.Path.{ap, _∙_}
+use Prim.Native.Nat.{_-_, _*_, _/_, _%_, _≤_}
 use native.Mathlib.Omega.{arith}
+use lib.ListN.{length}
+use Rattle.object.specs.declared.Corners.{Corners}
+use Rattle.object.specs.Object.{cornersOf}
+use Rattle.assoc.specs.Overlap.{overlapOf}
 use Rattle.assoc.specs.Associate.{detAt, cornersAt, overlaps}
 use Rattle.assoc.specs.Cells.{overlapCells}
-use Rattle.assoc.proofs.Loops.{some-column, in-row, in-column, Filling, filling-none, filling-more, filling-done}
+use Rattle.assoc.proofs.Loops.{row-ends, Filling}
+use Rattle.assoc.proofs.Rows.{rows-none, rows-more, rows-done}
+use borrow.Author.Needs.{needs}
 use Rattle.assoc.proofs.batch.iou_batch.Statement.{statement}
 use Rattle.assoc.proofs.batch.iou_batch.Tie as tie
 
 abbrev Inv-loop : tie.InvT-loop
-Inv-loop dets nd boxes nt out₀ n q₀ out q = Filling (λ k. overlaps (detAt dets) (cornersAt boxes) (k / nt) (k % nt)) out₀ (nd * nt) out q
+Inv-loop dets nd boxes nt out₀ i₀ out i = (i ≤ nd) × Filling (λ k. overlaps (detAt dets) (cornersAt boxes) (k / nt) (k % nt)) out₀ (nd * nt) out (i * nt)
 
 abbrev μ-loop : tie.MeasureT-loop
-μ-loop dets nd boxes nt out₀ n q₀ out q = nd * nt - q
-
-mul-n : tie.Need-mul-n Inv-loop μ-loop
-mul-n c = search needs
+μ-loop dets nd boxes nt out₀ i₀ out i = nd - i
 
 loop-holds : tie.Need-loop-holds Inv-loop μ-loop
-loop-holds c = filling-none _ _ _
+loop-holds c = let s = c .before .before .before in (omega arith, rows-none (overlaps (detAt (s .args .dets .now)) (cornersAt (s .args .boxes .now))) _ _ _)
 
-div-i : tie.Need-div-i Inv-loop μ-loop
-div-i c = omega (arith, some-column (c .before .before .before .before .before .args .nd) (c .before .before .before .before .before .args .nt) (c .before .loop .q) (c .loop-test .taken))
+mul-from : tie.Need-mul-from Inv-loop μ-loop
+mul-from c = search needs
 
-rem-j : tie.Need-rem-j Inv-loop μ-loop
-rem-j c = omega (arith, some-column (c .before .before .before .before .before .args .nd) (c .before .before .before .before .before .args .nt) (c .before .loop .q) (c .loop-test .taken))
+detection-at-requires : tie.Need-detection-at-requires Inv-loop μ-loop
+detection-at-requires c κs = search needs
 
-overlap-at-requires : tie.Need-overlap-at-requires Inv-loop μ-loop
-overlap-at-requires c κs = (omega (arith, in-row (c .before .before .before .before .before .args .nd) (c .before .before .before .before .before .args .nt) (c .before .loop .q) (c .loop-test .taken)), omega (arith, in-column (c .before .before .before .before .before .args .nd) (c .before .before .before .before .before .args .nt) (c .before .loop .q) (c .loop-test .taken)))
+corners-requires : tie.Need-corners-requires Inv-loop μ-loop
+corners-requires c κs = search needs
 
-mul-out : tie.Need-mul-out Inv-loop μ-loop
-mul-out c = search needs
+mul-overlap-row : tie.Need-mul-overlap-row Inv-loop μ-loop
+mul-overlap-row c = search needs
 
-slice-write-out : tie.Need-slice-write-out Inv-loop μ-loop
-slice-write-out c = omega (arith, c .before .before .loop .inv .same)
+sub-overlap-row : tie.Need-sub-overlap-row Inv-loop μ-loop
+sub-overlap-row c = search needs
 
-add-q : tie.Need-add-q Inv-loop μ-loop
-add-q c = search needs
+part-overlap-row-start : tie.Need-part-overlap-row-start Inv-loop μ-loop
+part-overlap-row-start c = search needs
+
+part-overlap-row-end : tie.Need-part-overlap-row-end Inv-loop μ-loop
+part-overlap-row-end c = search needs
+
+overlap-row-requires : tie.Need-overlap-row-requires Inv-loop μ-loop
+overlap-row-requires c κs =
+    let s = c .before .before .before .before .before .before .before .before in
+    let l = c .before .before .before .before .loop in
+    let e = row-ends (s .args .nd) (s .args .nt) (l .i) (c .before .before .before .loop-test .taken) in
+    (s .pre .1 .1 .1 .0, (s .pre .1 .0, omega (arith, e, s .pre .1 .1 .1 .1, l .inv .1 .same, c .overlap-row-arg .given)))
+
+add-i : tie.Need-add-i Inv-loop μ-loop
+add-i c = search needs
 
 loop-less : tie.Need-loop-less Inv-loop μ-loop
 loop-less c = search needs
 
 loop-again : tie.Need-loop-again Inv-loop μ-loop
-loop-again c = filling-more _ _ _ _ _ _ (c .before .before .loop .inv) (search needs) (search needs) (c .overlap-at .ensures)
+loop-again c =
+    let s = c .before .before .before .before .before .before .before .before .before .before .before in
+    let l = c .before .before .before .before .before .before .before .loop in
+    (omega arith, rows-more (overlaps (detAt (s .args .dets .now)) (cornersAt (s .args .boxes .now))) (s .args .out .now) (s .args .nd) (s .args .nt) (l .i) (l .out) _ (length (l .out) - l .i * s .args .nt) _ (l .inv .1) (c .before .before .before .before .before .before .loop-test .taken) (s .pre .1 .1 .1 .1) (omega arith) (c .before .before .overlap-row .ensures) (λ j h. ap (λ (d : Corners). overlapOf d (cornersAt (s .args .boxes .now) j)) (c .before .before .before .before .corners .ensures ∙ ap cornersOf (c .before .before .before .before .before .detection-at .ensures))))
 
 same-length : tie.Need-same-length Inv-loop μ-loop
-same-length c = c .before .loop .inv .same
+same-length c = c .before .loop .inv .1 .same
 
 returns : tie.Need-returns Inv-loop μ-loop
 unfolding overlapCells
-returns c = filling-done _ _ _ _ _ (c .before .loop .inv) (search needs)
+returns c = let s = c .before .before .before .before .before in rows-done (overlaps (detAt (s .args .dets .now)) (cornersAt (s .args .boxes .now))) _ _ _ _ _ (c .before .loop .inv .1) (c .loop-test .left)
 
 pub iou-batch-spec : {M : Type 1} → statement M
 iou-batch-spec =
@@ -57,14 +76,16 @@ iou-batch-spec =
     (tie.spec
     Inv-loop
     μ-loop
-    mul-n
     loop-holds
-    div-i
-    rem-j
-    overlap-at-requires
-    mul-out
-    slice-write-out
-    add-q
+    mul-from
+    detection-at-requires
+    corners-requires
+    mul-overlap-row
+    sub-overlap-row
+    part-overlap-row-start
+    part-overlap-row-end
+    overlap-row-requires
+    add-i
     loop-less
     loop-again
     same-length
