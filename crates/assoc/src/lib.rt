@@ -12,7 +12,7 @@ ghost use Rattle.object.specs.Object.{cornersOf};
 ghost use Rattle.assoc.specs.Overlap.{areaOf, sideOf, interOf, overlapOf};
 ghost use Rattle.assoc.specs.Angle.{centreOf, angleOf, cosineOf, maskOf, termOf};
 ghost use Rattle.assoc.specs.Passes.{unitOf};
-ghost use Rattle.assoc.specs.Associate.{angleTerm, detAt, cornersAt};
+ghost use Rattle.assoc.specs.Associate.{detAt, cornersAt};
 
 // ---- one object and one track
 
@@ -82,20 +82,6 @@ fn term(mask: f32, angle: f32, inertia: f32, score: f32) -> f32
     ensures { λ r. ⌜ r ≡ termOf mask angle inertia score ⌝ }
 {
     mask * angle * inertia * score
-}
-
-// The angle term of an object d and a track that heads dy, dx and was at p before.
-pub fn angle_term(inertia: f32, d: Detection, dy: f32, dx: f32, p: Detection) -> f32
-    ensures { λ r. ⌜ r ≡ angleTerm inertia d (record { dy = dy; dx = dx }) p ⌝ }
-{
-    let to_x = centre(d.x1, d.x2) - centre(p.x1, p.x2);
-    let to_y = centre(d.y1, d.y2) - centre(p.y1, p.y2);
-    term(
-        mask(p.score),
-        angle(cosine(dy, dx, to_x, to_y)),
-        inertia,
-        d.score,
-    )
 }
 
 // ---- entries of the lent slices
