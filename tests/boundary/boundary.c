@@ -1,13 +1,19 @@
 /*
- * The exported calls on anything: random bytes as images, images of runs with
- * some of their numbers spoilt, random lengths and floats. Each buffer ends at
- * a page that faults, and starts after cells that must stay.
+ * The exported calls on anything, each frame held against the plain form of
+ * the same call (`satinjacks_update_by_value`, crate by_value), which is
+ * proved against the same contract and converts the whole image both ways.
  *
  *     boundary CALLS SEED
  *
- * Each frame is held against the refusals of document 01, written here anew;
- * a refusal must leave every byte, and an accepted frame must give the same
- * bytes on a second image that differs only in the cells past the count.
+ * Images: those that runs of real frames grew, as they are or with a field
+ * damaged, with wild floats, with random bytes past the count, or at the
+ * limit of frames; and random bytes. Inputs and buffers of any length and
+ * content. Every buffer touches a page that faults, at its end or at its
+ * start, and on the other side bytes that must stay.
+ *
+ * Compared are number, count, every cell of both buffers and the image: an
+ * accepted frame leaves the plain form's (all NaNs are one value), a refusal
+ * leaves every byte as it was. A refusal that never came is a failure.
  */
 #include "satinjacks.h"
 
@@ -16,7 +22,29 @@
 #include <string.h>
 #include <sys/mman.h>
 
-enum { PAGE = 4096, ARENA = 16 * PAGE, INPUT_MAX = 400, BOXES_MAX = 300, IDS_MAX = 80 };
+typedef struct {
+    SatinjacksTracker image;
+    SatinjacksReply reply;
+} Stepped;
+
+Stepped satinjacks_update_by_value(SatinjacksTracker i, const float *input, size_t input_len, float *boxes, size_t boxes_len,
+                                   uint64_t *ids, size_t ids_len);
+
+enum { PAGE = 4096, ARENA = 16 * PAGE, GUARD = 256, INPUT_MAX = 420, BOXES_MAX = 300, IDS_MAX = 80, RUNS = 6, LIMIT = 1000000 };
+enum { WORDS = sizeof(SatinjacksTracker) / 4, HEAD = offsetof(SatinjacksTracker, tracks) / 4, CELL = sizeof(SatinjacksTrack) / 4 };
+
+static unsigned long call;
+static unsigned long long seed;
+
+#define CHECK(c) \
+    do { \
+        if (!(c)) { \
+            fprintf(stderr, "boundary: seed %llu, call %lu, line %d: %s\n", seed, call, __LINE__, #c); \
+            exit(1); \
+        } \
+    } while (0)
+
+/* ---- random numbers */
 
 static uint64_t state;
 
@@ -25,223 +53,476 @@ static uint64_t next(void)
     state ^= state << 13;
     state ^= state >> 7;
     state ^= state << 17;
-    return state * 0x2545F4914F6CDD1DULL >> 16;
+    return state * 0x2545F4914F6CDD1DULL;
 }
 
-static uint32_t below(uint32_t n) { return (uint32_t)(next() % n); }
-
-#define CHECK(c) \
-    do { \
-        if (!(c)) { \
-            fprintf(stderr, "boundary: line %d: %s\n", __LINE__, #c); \
-            abort(); \
-        } \
-    } while (0)
-
-/* ARENA bytes of which the last is followed by a page that faults. */
-static unsigned char *arena(void)
-{
-    unsigned char *a = mmap(NULL, ARENA + PAGE, PROT_READ | PROT_WRITE, MAP_PRIVATE | MAP_ANONYMOUS, -1, 0);
-    CHECK(a != MAP_FAILED && mprotect(a + ARENA, PAGE, PROT_NONE) == 0);
-    return a;
-}
-
-static void *last(unsigned char *a, size_t bytes) { return a + ARENA - bytes; }
-
-/* ---- the refusals that need no pairing */
-
-static int unit(float x) { return 0 <= x && x <= 1; }
-
-static int meant_track(const SatinjacksTrack *t)
-{
-    int ok = t->frozen <= 1 && t->last.is <= 1 && t->list.is <= 1 && t->direction.is <= 1;
-    for (int k = 0; k < 8; k++)
-        ok &= t->kept[k].is <= 1;
-    return ok;
-}
-
-static int sound_track(const SatinjacksTracker *i, const SatinjacksTrack *t)
-{
-    uint32_t holds = t->last.is;
-    return t->age <= i->frames && t->since <= i->max_age && t->streak <= t->age && t->since <= t->age
-        && t->list.is == holds && !(holds && t->since == t->age) && t->frozen == (holds && t->since > 0);
-}
-
-static int sound(const SatinjacksTracker *i)
-{
-    if (i->use_byte > 1 || i->det_thresh != i->det_thresh || !unit(i->iou_threshold) || !unit(i->inertia)
-        || i->max_age > 255 || i->min_hits > 255 || i->delta_t > 8 || i->frames > 1000000
-        || i->issued > 64 * (uint64_t)i->frames || i->count > 64)
-        return 0;
-    for (size_t k = 0; k < i->count; k++) {
-        const SatinjacksTrack *t = &i->tracks[k];
-        if (!meant_track(t) || !sound_track(i, t) || t->id >= i->issued || (k > 0 && t->id <= i->tracks[k - 1].id))
-            return 0;
-    }
-    return 1;
-}
-
-/* 0 stands for 0 or 7. */
-static uint64_t expected(const SatinjacksTracker *i, size_t input, size_t boxes, size_t ids)
-{
-    return !sound(i) ? 1 : input % 5 != 0 ? 3 : input > 320 ? 4 : boxes < 256 || ids < 64 ? 5 : i->frames >= 1000000 ? 6 : 0;
-}
-
-/* ---- random calls */
-
-static float any_float(void)
-{
-    uint32_t bits = (uint32_t)next();
-    float x;
-    memcpy(&x, &bits, 4);
-    return below(8) == 0 ? x : (float)below(2000) - 200;
-}
+static uint32_t below(uint32_t n) { return (uint32_t)((next() >> 16) % n); }
+static int one_in(uint32_t n) { return below(n) == 0; }
 
 static void random_bytes(void *p, size_t n)
 {
-    for (unsigned char *b = p; n-- > 0; b++)
-        *b = (unsigned char)next();
+    unsigned char *b = p;
+    for (; n >= 8; b += 8, n -= 8) {
+        uint64_t w = next();
+        memcpy(b, &w, 8);
+    }
+    uint64_t w = next();
+    memcpy(b, &w, n);
 }
 
-/* Some numbers of a state that a run left: a 4-byte word anywhere in its head or a live track. */
-static void spoil(SatinjacksTracker *i)
+/* Any float: zeros, infinities, NaNs of both kinds, the ends of the range, any pattern, or a plain number. */
+static uint32_t any_float(void)
 {
-    size_t used = offsetof(SatinjacksTracker, tracks) + (i->count <= 64 ? i->count : 64) * sizeof(SatinjacksTrack);
-    for (uint32_t k = below(4); k-- > 0;) {
-        uint32_t word = below(2) ? below(4) : (uint32_t)next();
-        memcpy((unsigned char *)i + 4 * below((uint32_t)(used / 4)), &word, 4);
+    static const uint32_t special[] = {0x00000000, 0x80000000, 0x7F800000, 0xFF800000, 0x7FC00000, 0xFFC00001, 0x7F800001, 0xFFBFFFFF,
+                                       0x00000001, 0x807FFFFF, 0x00800000, 0x7F7FFFFF, 0xFF7FFFFF, 0x3F800000, 0x3F7FFFFF, 0xBF800000};
+    uint32_t bits;
+    float x = (float)below(2000) - 200;
+    switch (below(4)) {
+    case 0: return special[below(sizeof special / 4)];
+    case 1: return (uint32_t)(next() >> 16);
+    default: memcpy(&bits, &x, 4); return bits;
     }
 }
 
-static SatinjacksTracker *fresh(SatinjacksTracker *i)
+static int is_nan(uint32_t bits) { return (bits & 0x7FFFFFFF) > 0x7F800000; }
+
+/* ---- places with guards */
+
+typedef struct {
+    unsigned char *arena, *at;
+    size_t bytes;
+    int ends; /* it touches the faulting page at its end, else at its start */
+} Place;
+
+static Place place(void)
 {
-    SatinjacksSettings s = {any_float(), (float)below(5) / 4, (float)below(5) / 4, below(258), below(258), below(10), below(3)};
-    static SatinjacksTracker was;
-    was = *i;
-    int bad = s.det_thresh != s.det_thresh || s.max_age > 255 || s.min_hits > 255 || s.delta_t > 8 || s.use_byte > 1;
-    CHECK(satinjacks_with_settings(i, s) == (bad ? SATINJACKS_BAD_SETTING : SATINJACKS_ACCEPTED));
-    if (bad) {
-        CHECK(memcmp(i, &was, sizeof was) == 0);
-        CHECK(satinjacks_new(i, (float)below(100) / 100) == SATINJACKS_ACCEPTED);
+    unsigned char *a = mmap(NULL, ARENA + 2 * PAGE, PROT_READ | PROT_WRITE, MAP_PRIVATE | MAP_ANONYMOUS, -1, 0);
+    CHECK(a != MAP_FAILED && mprotect(a, PAGE, PROT_NONE) == 0 && mprotect(a + PAGE + ARENA, PAGE, PROT_NONE) == 0);
+    return (Place){a + PAGE, NULL, 0, 0};
+}
+
+static unsigned char *guard(const Place *p) { return p->ends ? p->at - GUARD : p->at + p->bytes; }
+
+static void *lay(Place *p, size_t bytes)
+{
+    CHECK(bytes + GUARD <= ARENA);
+    p->ends = one_in(2);
+    p->bytes = bytes;
+    p->at = p->ends ? p->arena + ARENA - bytes : p->arena;
+    memset(guard(p), 0xA5, GUARD);
+    return p->at;
+}
+
+static int guarded(const Place *p)
+{
+    static unsigned char untouched[GUARD];
+    if (untouched[0] == 0)
+        memset(untouched, 0xA5, GUARD);
+    return memcmp(guard(p), untouched, GUARD) == 0;
+}
+
+/* ---- equality in which all NaNs are one value */
+
+static unsigned char is_float[WORDS];
+
+static void mark(size_t from, size_t floats)
+{
+    CHECK(from % 4 == 0);
+    memset(is_float + from / 4, 1, floats);
+}
+
+static void mark_floats(void)
+{
+    mark(offsetof(SatinjacksTracker, det_thresh), 3);
+    for (size_t k = 0; k < 64; k++) {
+        size_t t = offsetof(SatinjacksTracker, tracks) + k * sizeof(SatinjacksTrack);
+        mark(t + offsetof(SatinjacksTrack, filter), 56);
+        mark(t + offsetof(SatinjacksTrack, saved), 56);
+        mark(t + offsetof(SatinjacksTrack, last) + 4, 5);
+        mark(t + offsetof(SatinjacksTrack, list) + 4, 4);
+        mark(t + offsetof(SatinjacksTrack, direction) + 4, 2);
+        for (size_t j = 0; j < 8; j++)
+            mark(t + offsetof(SatinjacksTrack, kept) + j * sizeof(SatinjacksBox) + 4, 5);
     }
-    CHECK(i->count == 0 && i->frames == 0 && i->issued == 0 && sound(i));
-    return i;
 }
 
-static size_t length_near(size_t asked, size_t most)
+static uint32_t word(const void *p, size_t k)
 {
-    return below(12) == 0 ? below((uint32_t)most + 1) : below(12) == 0 ? asked - 1 : asked + below((uint32_t)(most - asked) + 1);
+    uint32_t w;
+    memcpy(&w, (const unsigned char *)p + 4 * k, 4);
+    return w;
 }
 
-static unsigned long counts[9];
+static void set_word(void *p, size_t k, uint32_t w) { memcpy((unsigned char *)p + 4 * k, &w, 4); }
 
-static void frame(unsigned char *const a[5], SatinjacksTracker *run)
+static int same_floats(const void *a, const void *b, size_t n)
 {
-    static SatinjacksTracker before;
-    static unsigned char guards[3][64];
-    SatinjacksTracker *image = last(a[0], sizeof *image), *twin = last(a[1], sizeof *twin);
-    size_t objects = below(20) == 0 ? below(70) : below(12);
-    size_t n = below(40) == 0 ? below(INPUT_MAX + 1) : 5 * objects;
-    size_t m = length_near(256, BOXES_MAX), l = length_near(64, IDS_MAX);
-    float *input = last(a[2], 4 * n), *boxes = last(a[3], 4 * m);
-    uint64_t *ids = last(a[4], 8 * l);
-
-    *image = *run;
-    uint32_t kind = below(10);
-    if (kind == 0)
-        random_bytes(image, sizeof *image);
-    else if (kind <= 3)
-        spoil(image);
     for (size_t k = 0; k < n; k++)
-        input[k] = kind <= 3 ? any_float() : k % 5 < 2 ? (float)below(640) : k % 5 < 4 ? 32 + (float)below(64) : (float)below(100) / 100;
-    random_bytes((unsigned char *)boxes - 64, 4 * m + 64);
-    random_bytes((unsigned char *)ids - 64, 8 * l + 64);
-    memcpy(guards[0], (unsigned char *)image - 64, 64);
-    memcpy(guards[1], (unsigned char *)boxes - 64, 64);
-    memcpy(guards[2], (unsigned char *)ids - 64, 64);
-    before = *image;
-    static unsigned char boxes0[4 * BOXES_MAX], ids0[8 * IDS_MAX], input0[4 * INPUT_MAX];
-    memcpy(boxes0, boxes, 4 * m);
-    memcpy(ids0, ids, 8 * l);
-    memcpy(input0, input, 4 * n);
-
-    uint64_t must = expected(image, n, m, l);
-    SatinjacksReply r = satinjacks_update(image, input, n, boxes, m, ids, l);
-    counts[r.number <= 8 ? r.number : 8]++;
-    CHECK(r.number == must || (must == 0 && r.number == SATINJACKS_FULL_TABLE));
-    CHECK(memcmp(input, input0, 4 * n) == 0);
-    CHECK(memcmp((unsigned char *)image - 64, guards[0], 64) == 0);
-    CHECK(memcmp((unsigned char *)boxes - 64, guards[1], 64) == 0);
-    CHECK(memcmp((unsigned char *)ids - 64, guards[2], 64) == 0);
-    if (r.number != 0) {
-        CHECK(r.count == 0 && memcmp(image, &before, sizeof before) == 0);
-        CHECK(memcmp(boxes, boxes0, 4 * m) == 0 && memcmp(ids, ids0, 8 * l) == 0);
-        return;
-    }
-    CHECK(r.count <= image->count + before.count + objects && r.count <= 64 && sound(image));
-    CHECK(image->frames == before.frames + 1 && image->issued >= before.issued);
-    CHECK(memcmp((unsigned char *)boxes + 16 * r.count, boxes0 + 16 * r.count, 4 * m - 16 * r.count) == 0);
-    CHECK(memcmp((unsigned char *)ids + 8 * r.count, ids0 + 8 * r.count, 8 * (l - r.count)) == 0);
-    for (size_t k = 0; k < r.count; k++)
-        CHECK(1 <= ids[k] && ids[k] <= image->issued && (k == 0 || ids[k] < ids[k - 1]));
-
-    /* again, elsewhere, with other bytes where nothing lives */
-    *twin = before;
-    random_bytes(&twin->tracks[before.count], (64 - before.count) * sizeof(SatinjacksTrack));
-    static float boxes2[256];
-    static uint64_t ids2[64];
-    SatinjacksReply r2 = satinjacks_update(twin, input, n, boxes2, 256, ids2, 64);
-    CHECK(r2.number == 0 && r2.count == r.count && memcmp(twin, image, sizeof *twin) == 0);
-    CHECK(memcmp(boxes2, boxes, 16 * r.count) == 0 && memcmp(ids2, ids, 8 * r.count) == 0);
-    if (kind > 3)
-        *run = *image;
+        if (word(a, k) != word(b, k) && !(is_nan(word(a, k)) && is_nan(word(b, k))))
+            return 0;
+    return 1;
 }
 
-static void assignment(unsigned char *const a[5])
+static int same_image(const SatinjacksTracker *a, const SatinjacksTracker *b)
 {
-    size_t n = below(4) == 0 ? below(66) : below(9), c = below(8) == 0 ? n * n + 1 : n * n, l = below(8) == 0 ? n + 1 : n;
-    double *cost = last(a[0], 8 * c);
-    int64_t *x = last(a[3], 8 * l), *y = last(a[4], 8 * n), x0[80], y0[80];
-    int costs_any = below(3) == 0;
-    for (size_t k = 0; k < c; k++) {
-        uint64_t bits = next() << 16 ^ next();
-        cost[k] = below(4);
-        if (costs_any)
-            memcpy(&cost[k], &bits, 8);
+    if (memcmp(a, b, sizeof *a) == 0)
+        return 1;
+    for (size_t k = 0; k < WORDS; k++)
+        if (word(a, k) != word(b, k) && !(is_float[k] && is_nan(word(a, k)) && is_nan(word(b, k))))
+            return 0;
+    return 1;
+}
+
+static size_t live(const SatinjacksTracker *i) { return i->count <= 64 ? i->count : 64; }
+
+static int holds_nan(const SatinjacksTracker *i)
+{
+    for (size_t k = HEAD; k < HEAD + CELL * live(i); k++)
+        if (is_float[k] && is_nan(word(i, k)))
+            return 1;
+    return 0;
+}
+
+/* ---- making a tracker */
+
+static unsigned long made[9], assigned[9];
+
+static int unit(float x) { return 0 <= x && x <= 1; }
+
+static int in_range(const SatinjacksSettings *s)
+{
+    return s->det_thresh == s->det_thresh && unit(s->iou_threshold) && unit(s->inertia) && s->max_age <= 255 && s->min_hits <= 255
+        && s->delta_t <= 8 && s->use_byte <= 1;
+}
+
+/* An empty tracker with these settings: nothing counted, and the table's 64 cells alike. */
+static int begins(const SatinjacksTracker *i, const SatinjacksSettings *s)
+{
+    for (size_t k = 1; k < 64; k++)
+        if (memcmp(&i->tracks[k], &i->tracks[0], sizeof i->tracks[0]) != 0)
+            return 0;
+    return i->count == 0 && i->frames == 0 && i->issued == 0 && memcmp(&i->det_thresh, s, sizeof *s) == 0;
+}
+
+/* Settings that a host means, any bytes, or meant ones with a field damaged. */
+static SatinjacksSettings any_settings(void)
+{
+    SatinjacksSettings s = {(float)below(100) / 100, (float)below(5) / 8, (float)below(5) / 4, one_in(2) ? below(6) : below(256),
+                            below(5), below(9), below(2)};
+    uint32_t kind = below(8);
+    if (kind == 0)
+        random_bytes(&s, sizeof s);
+    else if (kind <= 3)
+        set_word(&s, below(sizeof s / 4), one_in(2) ? any_float() : below(300));
+    return s;
+}
+
+static void make(Place *p, SatinjacksTracker *run)
+{
+    static SatinjacksTracker was;
+    for (int done = 0; !done;) {
+        SatinjacksTracker *image = lay(p, sizeof *image);
+        random_bytes(image, sizeof *image);
+        was = *image;
+        SatinjacksSettings s = any_settings();
+        uint64_t number;
+        if (one_in(4)) {
+            SatinjacksSettings d = {s.det_thresh, 0.3f, 0.2f, 30, 3, 3, 0};
+            s = d;
+            number = satinjacks_new(image, s.det_thresh);
+        } else {
+            number = satinjacks_with_settings(image, s);
+        }
+        CHECK(number == (in_range(&s) ? SATINJACKS_ACCEPTED : SATINJACKS_BAD_SETTING) && guarded(p));
+        done = number == 0;
+        made[number]++;
+        CHECK(done ? begins(image, &s) : memcmp(image, &was, sizeof was) == 0);
+        *run = *image;
     }
+}
+
+/* ---- the assignment */
+
+static size_t near(size_t n) { return one_in(8) ? n + 1 : one_in(8) && n > 0 ? n - 1 : n; }
+
+static void assignment(Place *pc, Place *px, Place *py)
+{
+    static unsigned char cost0[8 * 66 * 66], x0[8 * 80], y0[8 * 80];
+    size_t n = one_in(4) ? below(66) : below(9);
+    size_t c = near(n * n), l = near(n), m = near(n);
+    double *cost = lay(pc, 8 * c);
+    int64_t *x = lay(px, 8 * l), *y = lay(py, 8 * m);
+    if (one_in(16)) /* sizes whose square is that of a small matrix, or none */
+        n = one_in(2) ? (size_t)1 << (32 + below(32)) | (one_in(2) ? n : 0) : (size_t)next();
+    int any = one_in(3);
+    for (size_t k = 0; k < c; k++)
+        cost[k] = below(4);
+    if (any)
+        random_bytes(cost, 8 * c);
     random_bytes(x, 8 * l);
-    random_bytes(y, 8 * n);
+    random_bytes(y, 8 * m);
+    memcpy(cost0, cost, 8 * c);
     memcpy(x0, x, 8 * l);
-    memcpy(y0, y, 8 * n);
-    int fits = n >= 1 && n <= 64 && c == n * n && l == n;
-    CHECK(satinjacks_assign(n, cost, c, x, l, y, n) == (fits ? SATINJACKS_ACCEPTED : SATINJACKS_BAD_MATRIX));
+    memcpy(y0, y, 8 * m);
+    int fits = n >= 1 && n <= 64 && c == n * n && l == n && m == n;
+    uint64_t number = satinjacks_assign(n, cost, c, x, l, y, m);
+    CHECK(number == (fits ? SATINJACKS_ACCEPTED : SATINJACKS_BAD_MATRIX));
+    CHECK(guarded(pc) && guarded(px) && guarded(py) && memcmp(cost, cost0, 8 * c) == 0);
+    assigned[number]++;
     if (fits)
         for (size_t k = 0; k < n; k++)
             CHECK(0 <= x[k] && x[k] < (int64_t)n && y[x[k]] == (int64_t)k);
     else
-        CHECK(memcmp(x, x0, 8 * l) == 0 && memcmp(y, y0, 8 * n) == 0);
+        CHECK(memcmp(x, x0, 8 * l) == 0 && memcmp(y, y0, 8 * m) == 0);
+}
+
+/* ---- runs: animals that walk and hide, boxes anywhere, or a flood that fills the table */
+
+typedef struct {
+    SatinjacksTracker image;
+    uint32_t scene, animals;
+    float x[64], y[64], vx[64], vy[64];
+} Run;
+
+static void begin(Place *p, Run *r)
+{
+    make(p, &r->image);
+    r->scene = below(6);
+    r->animals = one_in(4) ? 1 + below(64) : 1 + below(12);
+    for (uint32_t k = 0; k < 64; k++) {
+        r->x[k] = (float)below(1500);
+        r->y[k] = (float)below(1000);
+        r->vx[k] = (float)below(17) - 8;
+        r->vy[k] = (float)below(17) - 8;
+    }
+}
+
+/* A frame of the run as 5 floats an object; returns how many objects. */
+static size_t objects(Run *r, float *out)
+{
+    size_t n = 0, most = r->scene == 4 ? below(12) : 20 + below(45);
+    if (one_in(12))
+        return 0;
+    if (r->scene < 4)
+        for (uint32_t k = 0; k < r->animals; k++) {
+            r->x[k] += r->vx[k];
+            r->y[k] += r->vy[k];
+            if (below(16) < 13) {
+                float *o = out + 5 * n++;
+                o[0] = r->x[k] + (float)below(5);
+                o[1] = r->y[k] + (float)below(5);
+                o[2] = 60 + (float)(k % 7) * 5;
+                o[3] = 40 + (float)below(4);
+                o[4] = one_in(4) ? (float)below(101) / 100 : 1;
+            }
+        }
+    else
+        for (; n < most; n++) {
+            float *o = out + 5 * n;
+            o[0] = (float)below(640);
+            o[1] = (float)below(640);
+            o[2] = 32 + (float)below(64);
+            o[3] = 32 + (float)below(64);
+            o[4] = (float)below(101) / 100;
+        }
+    return n;
+}
+
+/* ---- images */
+
+/* Some tag of a track. */
+static uint32_t *tag(SatinjacksTrack *t)
+{
+    uint32_t k = below(12);
+    return k < 8 ? &t->kept[k].is : k == 8 ? &t->frozen : k == 9 ? &t->last.is : k == 10 ? &t->list.is : &t->direction.is;
+}
+
+/* A tag other than 0 and 1, or one word of the head or of a live track, rather a count, a setting or a tag than a float. */
+static void damage(SatinjacksTracker *i)
+{
+    size_t tracks = live(i), k;
+    if (tracks > 0 && one_in(4)) {
+        *tag(&i->tracks[below((uint32_t)tracks)]) = one_in(2) ? 2 : (uint32_t)next() | 2;
+        return;
+    }
+    int whole = one_in(3), head = tracks == 0 || one_in(3);
+    do
+        k = head ? below(HEAD) : HEAD + below((uint32_t)tracks * CELL);
+    while (!whole && is_float[k]);
+    uint32_t w = word(i, k);
+    switch (below(6)) {
+    case 0: w = below(4); break;
+    case 1: w = w + 1; break;
+    case 2: w = w - 1; break;
+    case 3: w = w ^ 1U << below(32); break;
+    case 4: w = 60 + below(8); break;
+    default: w = any_float(); break;
+    }
+    set_word(i, k, w);
+}
+
+static void past_the_count(SatinjacksTracker *i) { random_bytes(&i->tracks[live(i)], (64 - live(i)) * sizeof(SatinjacksTrack)); }
+
+static void wild_floats(SatinjacksTracker *i)
+{
+    uint32_t rare = 1 + below(60);
+    for (size_t k = HEAD; k < HEAD + CELL * live(i); k++)
+        if (is_float[k] && one_in(rare))
+            set_word(i, k, any_float());
+}
+
+/* Random bytes, or random tracks whose tags mean something under the head of a run. */
+static void random_image(SatinjacksTracker *i)
+{
+    size_t head = one_in(2) ? 0 : HEAD;
+    random_bytes((unsigned char *)i + 4 * head, sizeof *i - 4 * head);
+    for (size_t k = head; head > 0 && k < WORDS; k++)
+        if (!is_float[k] && (k - HEAD) % CELL >= 2)
+            set_word(i, k, word(i, k) & 1);
+}
+
+/* ---- a frame by both calls */
+
+static unsigned long counts[9], reporting, with_nan;
+
+static size_t room(size_t asked, size_t most)
+{
+    return one_in(40) ? below((uint32_t)asked) : one_in(40) ? asked - 1 : one_in(2) ? asked : asked + below((uint32_t)(most - asked) + 1);
+}
+
+static Place places[7];
+
+static void frame(Run *run)
+{
+    static SatinjacksTracker before, plain;
+    static Stepped by;
+    static float input0[INPUT_MAX];
+    static unsigned char boxes0[4 * BOXES_MAX], ids0[8 * IDS_MAX];
+    Place *p = places;
+
+    size_t n = 5 * objects(run, input0);
+    if (one_in(24))
+        n = one_in(2) ? n + 1 + below(4) : below(INPUT_MAX + 1);
+    if (one_in(24))
+        n = 5 * (65 + below(15)) + (one_in(4) ? below(5) : 0);
+    if (one_in(8))
+        for (uint32_t k = 0, rare = 1 + below(80); k < INPUT_MAX; k++)
+            if (one_in(rare))
+                set_word(input0, k, any_float());
+    size_t m = room(256, BOXES_MAX), l = room(64, IDS_MAX);
+    random_bytes(boxes0, 4 * m);
+    random_bytes(ids0, 8 * l);
+
+    SatinjacksTracker *image = lay(&p[0], sizeof *image);
+    *image = run->image;
+    uint32_t kind = below(20); /* from 10 on the image is as the run grew it */
+    if (kind == 0)
+        random_image(image);
+    else if (kind <= 2)
+        wild_floats(image);
+    else if (kind <= 4)
+        past_the_count(image);
+    else if (kind <= 9)
+        for (uint32_t k = one_in(4) ? 3 : 1; k-- > 0;)
+            damage(image);
+    int limit = one_in(40);
+    if (limit)
+        image->frames = LIMIT - 1 + (one_in(4) ? 0 : 1) + (one_in(8) ? 1 : 0);
+    before = *image;
+
+    /* the plain form may have other bytes where nothing lives */
+    plain = before;
+    int other = one_in(4);
+    if (other)
+        past_the_count(&plain);
+
+    float *input = lay(&p[1], 4 * n), *boxes = lay(&p[2], 4 * m), *input2 = lay(&p[4], 4 * n), *boxes2 = lay(&p[5], 4 * m);
+    uint64_t *ids = lay(&p[3], 8 * l), *ids2 = lay(&p[6], 8 * l);
+    memcpy(input, input0, 4 * n);
+    memcpy(input2, input0, 4 * n);
+    memcpy(boxes, boxes0, 4 * m);
+    memcpy(boxes2, boxes0, 4 * m);
+    memcpy(ids, ids0, 8 * l);
+    memcpy(ids2, ids0, 8 * l);
+
+    SatinjacksReply r = satinjacks_update(image, input, n, boxes, m, ids, l);
+    by = satinjacks_update_by_value(plain, input2, n, boxes2, m, ids2, l);
+
+    CHECK(r.number == by.reply.number && r.count == by.reply.count);
+    CHECK(r.number <= SATINJACKS_FULL_TABLE && r.number != SATINJACKS_BAD_SETTING && r.count <= 64);
+    for (int k = 0; k < 7; k++)
+        CHECK(guarded(&p[k]));
+    CHECK(memcmp(input, input0, 4 * n) == 0 && memcmp(input2, input0, 4 * n) == 0);
+    CHECK(r.number == 0 || r.count == 0);
+
+    /* the reports' cells, then the cells that keep every byte */
+    size_t f = 4 * r.count, d = r.count;
+    CHECK(f <= m && d <= l);
+    CHECK(same_floats(boxes, boxes2, f) && memcmp(ids, ids2, 8 * d) == 0);
+    CHECK(memcmp(boxes + f, boxes0 + 4 * f, 4 * (m - f)) == 0 && memcmp(ids + d, ids0 + 8 * d, 8 * (l - d)) == 0);
+    CHECK(memcmp(boxes2 + f, boxes0 + 4 * f, 4 * (m - f)) == 0 && memcmp(ids2 + d, ids0 + 8 * d, 8 * (l - d)) == 0);
+
+    counts[r.number]++;
+    if (r.number != 0) {
+        CHECK(memcmp(image, &before, sizeof before) == 0);
+        CHECK(same_image(&by.image, &plain));
+        return;
+    }
+    CHECK(same_image(image, &by.image));
+    CHECK(image->frames == before.frames + 1);
+    reporting += r.count > 0;
+    with_nan += holds_nan(image);
+    if (kind > 9 && !limit)
+        run->image = *image;
+}
+
+static int complete = 1;
+
+/* How often each of these numbers came; one that never came is a failure. */
+static void tally(const char *what, const unsigned long *came, const char *numbers)
+{
+    unsigned long all = 0;
+    for (const char *n = numbers; *n; n++)
+        all += came[*n - '0'];
+    printf("%s%lu %s:", came == counts ? "" : "; ", all, what);
+    for (const char *n = numbers; *n; n++)
+        printf(" %c x%lu%s", *n, came[*n - '0'], n[1] ? "," : "");
+    for (const char *n = numbers; *n; n++)
+        complete &= came[*n - '0'] > 0;
 }
 
 int main(int argc, char **argv)
 {
     CHECK(argc == 3);
     unsigned long calls = strtoul(argv[1], NULL, 10);
-    state = strtoull(argv[2], NULL, 10) * 2 + 1;
-    unsigned char *const a[5] = {arena(), arena(), arena(), arena(), arena()};
-    static SatinjacksTracker run;
-    fresh(&run);
-    for (unsigned long k = 0; k < calls; k++) {
-        if (below(200) == 0)
-            fresh(&run);
-        if (below(500) == 0 && run.count > 0)
-            run.frames = 1000000 - below(2);
-        if (below(20) == 0)
-            assignment(a);
-        frame(a, &run);
+    seed = strtoull(argv[2], NULL, 10);
+    state = seed * 2 + 1;
+    for (int k = 0; k < 64; k++)
+        next();
+    mark_floats();
+    for (int k = 0; k < 7; k++)
+        places[k] = place();
+    static Run runs[RUNS];
+    for (int k = 0; k < RUNS; k++)
+        begin(&places[0], &runs[k]);
+    for (call = 1; call <= calls; call++) {
+        Run *r = &runs[below(RUNS)];
+        if (one_in(150))
+            begin(&places[0], r);
+        if (one_in(20)) {
+            static SatinjacksTracker spare;
+            make(&places[0], &spare);
+        }
+        if (one_in(20))
+            assignment(&places[1], &places[2], &places[3]);
+        frame(r);
     }
-    printf("%lu frames:", calls);
-    for (int k = 0; k < 8; k++)
-        printf(" %d x%lu", k, counts[k]);
+    tally("frames", counts, "0134567");
+    printf(" (%lu with reports, %lu left a NaN)", reporting, with_nan);
+    tally("trackers made", made, "02");
+    tally("assignments", assigned, "08");
     printf("\n");
+    fflush(stdout);
+    CHECK(complete);
     return 0;
 }

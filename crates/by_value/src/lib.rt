@@ -1,0 +1,62 @@
+// The exported frame call in its plain form: the whole image is converted there and back. tests/boundary holds `satinjacks_update` against it.
+use frame::Outcome;
+use host::Reply;
+use image::TrackerImage;
+ghost use mathlib.Core.Path.{_≡_};
+ghost use Rattle.host.specs.Host.{toldOf, Hosted};
+
+#[repr(C)]
+pub struct Stepped {
+    pub image: TrackerImage,
+    pub reply: Reply,
+}
+
+// Written anew rather than shared with `host`.
+fn told(outcome: Outcome) -> u64
+    ensures { λ r. ⌜ r ≡ toldOf outcome ⌝ }
+{
+    match outcome {
+        Outcome::Accepted => 0,
+        Outcome::Refused(refusal) => object::number(refusal) as u64,
+    }
+}
+
+// One frame, by value: a refusal returns the image as it came. No refusal has number 0.
+#[no_mangle]
+pub extern "C" fn satinjacks_update_by_value(
+    i: TrackerImage,
+    input: &[f32],
+    boxes: &mut [f32],
+    ids: &mut [u64],
+) -> Stepped
+    ensures { λ r. ⌜ Hosted i (now (input .entry)) (now (boxes .entry)) (now (ids .entry)) (r .image) (r .reply) (now (boxes .exit)) (now (ids .exit)) ⌝ }
+{
+    if !image::is_meant(i) {
+        return Stepped {
+            image: i,
+            reply: Reply {
+                number: 1,
+                count: 0,
+            },
+        };
+    }
+    let t = image::thaw(i);
+    let answer = oc_sort_tracker::update(t, input, boxes, ids);
+    let outcome = answer.outcome;
+    let number = told(outcome);
+    if number != 0 {
+        return Stepped {
+            image: i,
+            reply: Reply { number, count: 0 },
+        };
+    }
+    let next = answer.tracker;
+    let image = image::freeze(next);
+    Stepped {
+        image,
+        reply: Reply {
+            number,
+            count: answer.count,
+        },
+    }
+}
