@@ -66,6 +66,6 @@ pub fn overlap(line: &[u8], out: &mut [u8], at: usize) -> Answer {
     crate::put_number(
         out,
         at,
-        assoc::overlap(corners_at(line, 3), corners_at(line, 39)),
+        pair::overlap(corners_at(line, 3), corners_at(line, 39)),
     )
 }

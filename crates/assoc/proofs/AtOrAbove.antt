@@ -6,7 +6,7 @@ use native.Mathlib.Omega.{arith}
 use lib.Dec.{T, eqb, ltb, lt→ltb, nltb→le, eqb-refl}
 use lib.Ieee.{Float, nan, inf, fin, lt, le, eq, isNan, up, down, below, level}
 use Rattle.object.specs.declared.Corners.{Corners}
-use Rattle.assoc.specs.Overlap.{overlapOf}
+use Rattle.pair.specs.Overlap.{overlapOf}
 use Rattle.assoc.proofs.NeverNan.{Number, never-nan, absurd-eq}
 
 pub number : (x : Float) → isNan x ≡ false → Number x

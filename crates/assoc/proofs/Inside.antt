@@ -17,7 +17,7 @@ use Rattle.lists.proofs.Tab.{length-tab, getD-tab, tab-ext}
 use Rattle.lapjv_walk.specs.Marks.{free, isFree, index, markAt}
 use Rattle.object.specs.declared.Corners.{Corners}
 use Rattle.object.specs.declared.Detection.{Detection}
-use Rattle.assoc.specs.Angle.{Step}
+use Rattle.pair.specs.Angle.{Step}
 use Rattle.assoc.specs.Associate.{overlaps, angleTerm, combined}
 use Rattle.assoc.specs.Paired.{Paired}
 use Rattle.assoc.specs.Matching.{Matrix, aboveOf, countOf, fullest, shortcut, passing, larger, costsOf, someAbove, assigned, keptWhere}

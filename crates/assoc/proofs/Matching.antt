@@ -21,8 +21,8 @@ use Rattle.lapjv_walk.proofs.Cases.{pos-inj, pos-free, and-left, and-right, nev
 use Rattle.lapjv_walk.proofs.Whole.{one-to-one}
 use Rattle.lists.specs.Lists.{pick, tab}
 use Rattle.lists.proofs.Tab.{length-tab, getD-tab}
-use Rattle.assoc.specs.Overlap.{overlapOf}
-use Rattle.assoc.specs.Angle.{Step}
+use Rattle.pair.specs.Overlap.{overlapOf}
+use Rattle.pair.specs.Angle.{Step}
 use Rattle.assoc.specs.Matching.{Matrix, Pattern, aboveOf, countOf, fullest, shortcut, passing, larger, costsOf, within, assigned, keptWhere, matchOrLapjv, matched, rematched, someAbove, laterRound}
 use Rattle.assoc.specs.Associate.{overlaps, combined, associate, reassociate}
 use Rattle.assoc.specs.Paired.{Paired, Fair}

@@ -12,7 +12,7 @@ use lib.Ieee.Fits.{up-pos, down-pos}
 use lib.Ieee.Scale.{round-same}
 use Rattle.ieee.specs.Ops.{f32, maxOf, minOf}
 use Rattle.object.specs.declared.Corners.{Corners}
-use Rattle.assoc.specs.Overlap.{areaOf, sideOf, interOf, shareOf, overlapOf}
+use Rattle.pair.specs.Overlap.{areaOf, sideOf, interOf, shareOf, overlapOf}
 
 -- ---- a number that is not negative: the sign is clear, or it is a zero
 

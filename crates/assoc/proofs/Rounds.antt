@@ -14,7 +14,7 @@ use Rattle.object.specs.declared.Detection.{Detection}
 use Rattle.lists.specs.Lists.{pick, tab}
 use Rattle.lapjv_walk.specs.Marks.{free, markAt}
 use Rattle.lapjv_walk.proofs.Fill.{take-fill}
-use Rattle.assoc.specs.Angle.{Step}
+use Rattle.pair.specs.Angle.{Step}
 use Rattle.assoc.specs.Matching.{Matrix, aboveOf, shortcut, passing, assigned, keptWhere, matchOrLapjv, matched, rematched, someAbove, laterRound}
 use Rattle.assoc.specs.Associate.{overlaps, angleTerm, combined, associate, reassociate}
 use Rattle.assoc.specs.Cells.{overlapCells, entryAt}

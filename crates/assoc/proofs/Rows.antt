@@ -12,8 +12,8 @@ use Rattle.lists.specs.Lists.{tab}
 use Rattle.lists.proofs.Tab.{length-tab, getD-tab, tab-ext, tab-append, filled-length}
 use Rattle.object.specs.declared.Detection.{Detection}
 use Rattle.object.specs.Object.{cornersOf}
-use Rattle.assoc.specs.Angle.{stepTo, angleOf, cosineOf, maskOf, termOf}
-use Rattle.assoc.specs.Passes.{unitOf, centreX, centreY, Centred}
+use Rattle.pair.specs.Angle.{unitOf, stepTo, angleOf, cosineOf, maskOf, termOf}
+use Rattle.assoc.specs.Passes.{centreX, centreY, Centred}
 use Rattle.assoc.specs.Associate.{angleTerm, detAt, stepAt}
 use Rattle.assoc.specs.Matching.{Matrix}
 use Rattle.assoc.specs.Cells.{entryAt}

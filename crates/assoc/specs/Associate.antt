@@ -7,8 +7,8 @@ use lib.ListN.{getD}
 use Rattle.object.specs.declared.Corners.{Corners}
 use Rattle.object.specs.declared.Detection.{Detection}
 use Rattle.object.specs.Object.{cornersOf}
-use Rattle.assoc.specs.Overlap.{overlapOf}
-use Rattle.assoc.specs.Angle.{Step, stepTo, angleOf, cosineOf, maskOf, termOf}
+use Rattle.pair.specs.Overlap.{overlapOf}
+use Rattle.pair.specs.Angle.{Step, stepTo, angleOf, cosineOf, maskOf, termOf}
 use Rattle.assoc.specs.Matching.{Matrix, matched, laterRound}
 
 -- the overlaps of objects and boxes

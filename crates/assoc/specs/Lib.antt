@@ -1,5 +1,3 @@
-pub mod Overlap
-pub mod Angle
 pub mod Matching
 pub mod Associate
 pub mod Passes

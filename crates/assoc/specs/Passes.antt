@@ -7,14 +7,7 @@ use lib.ListN.{getD}
 use Rattle.ieee.specs.Ops.{f32}
 use Rattle.ieee.specs.Sqrt.{sqrtOf}
 use Rattle.object.specs.declared.Detection.{Detection}
-use Rattle.assoc.specs.Angle.{Step, centreOf}
-
--- a step over its length plus 1e-6
-unfoldable pub unitOf : Float → Float → Step
-unfolding add mul div sqrtOf
-unitOf dx dy =
-    let norm = add binary32 (sqrtOf (add binary32 (mul binary32 dx dx) (mul binary32 dy dy))) (f32 0x3586_37bd) in
-    record { dy = div binary32 dy norm; dx = div binary32 dx norm }
+use Rattle.pair.specs.Angle.{Step, centreOf}
 
 abbrev pub centreX : Detection → Float
 centreX d = centreOf (d .x1) (d .x2)

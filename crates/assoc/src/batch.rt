@@ -7,24 +7,24 @@ ghost use lib.Ieee.{binary32, nan, add, sub};
 ghost use lib.ListN.{length, getD, drop, replicate};
 ghost use Rattle.lists.specs.Lists.{pick, tab};
 ghost use Rattle.lapjv_walk.specs.Marks.{free};
-ghost use Rattle.assoc.specs.Overlap.{overlapOf};
-ghost use Rattle.assoc.specs.Angle.{angleOf, cosineOf, maskOf, termOf};
-ghost use Rattle.assoc.specs.Passes.{unitOf, centreX, centreY, Centred};
+ghost use Rattle.pair.specs.Overlap.{overlapOf};
+ghost use Rattle.pair.specs.Angle.{unitOf, angleOf, cosineOf, maskOf, termOf};
+ghost use Rattle.assoc.specs.Passes.{centreX, centreY, Centred};
 ghost use Rattle.assoc.specs.Associate.{angleTerm, detAt, cornersAt, stepAt, overlaps};
 ghost use Rattle.assoc.specs.Matching.{aboveOf, countOf, fullest, larger, passing, shortcut, someAbove};
 ghost use Rattle.assoc.specs.Cells.{overlapCells, entryAt};
 use crate::Marks;
-use crate::angle;
-use crate::centre;
 use crate::corners;
 use crate::corners_at;
-use crate::cosine;
 use crate::detection_at;
-use crate::mask;
-use crate::overlap;
-use crate::term;
 use object::Corners;
 use object::Detection;
+use pair::angle;
+use pair::centre;
+use pair::cosine;
+use pair::mask;
+use pair::overlap;
+use pair::term;
 
 // ---- the matrices
 

@@ -6,8 +6,8 @@ use Rattle.lapjv_walk.specs.Ccrt.{assignStep, assignFrom, assign, reduceStep, r
 use Rattle.lapjv_walk.specs.Lapjv.{hopMore, hop, augment, caStep, caDense, twoPasses, lapjv}
 use Rattle.lapjv_walk.specs.Loops.{turns, walk, runs}
 use Rattle.lapjv_walk.specs.Path.{lastFree, scanMore, searchMore, findStep, findDense, scanHit, raiseStep, raise, scanCol, scanStep, scanRow, scanTurn, scanAll, scanDense, toScan, searchTurn, searchFrom, searchPath, findPathDense}
-use Rattle.assoc.specs.Overlap.{areaOf, sideOf, interOf, shareOf, overlapOf}
-use Rattle.assoc.specs.Angle.{centreOf, stepTo, angleOf, cosineOf, maskOf, termOf}
+use Rattle.pair.specs.Overlap.{areaOf, sideOf, interOf, shareOf, overlapOf}
+use Rattle.pair.specs.Angle.{centreOf, unitOf, stepTo, angleOf, cosineOf, maskOf, termOf}
 use Rattle.assoc.specs.Matching as Matching
 use Rattle.assoc.specs.Matching.{aboveOf, shortcut, costsOf, assigned, keptWhere, matchOrLapjv, matched, rematched, someAbove}
 use Rattle.assoc.specs.Associate.{angleTerm, combined, associate, reassociate}
@@ -23,5 +23,5 @@ use Rattle.object.specs.Object.{rectOf}
 use Rattle.cases.specs.Cases.{Each, Cases}
 
 pub settled : Each Cases
-unfolding ofBits isNan carrSeat carrMore twoStep two carrPick carrStep carrRuns carrDence assignStep assignFrom assign reduceStep reduceRow reduceColumns otherStep otherMin collectStep collect ccrtDense hopMore hop augment caStep caDense twoPasses lapjv turns walk runs lastFree scanMore searchMore findStep findDense scanHit raiseStep raise scanCol scanStep scanRow scanTurn scanAll scanDense toScan searchTurn searchFrom searchPath findPathDense areaOf sideOf interOf shareOf overlapOf centreOf stepTo angleOf cosineOf maskOf termOf aboveOf shortcut costsOf assigned keptWhere matchOrLapjv matched rematched someAbove Matching.laterRound angleTerm combined associate reassociate startOf predictOf measureOf boxOf middle directionOf noFilter birthOf areaHeld trackPredict stateBox oldestOf previousOf kPreviousOf headingOf trackBox freezes trackMiss ownRules unitRange inRange blank stateOf emptyTracker trackRules stateRules detectionAt objectsOf firstScore spareScore firstRound laterRound rounds early hasNan predictedTracks viewOf reportOf isReported frameOf rectOf
+unfolding ofBits isNan carrSeat carrMore twoStep two carrPick carrStep carrRuns carrDence assignStep assignFrom assign reduceStep reduceRow reduceColumns otherStep otherMin collectStep collect ccrtDense hopMore hop augment caStep caDense twoPasses lapjv turns walk runs lastFree scanMore searchMore findStep findDense scanHit raiseStep raise scanCol scanStep scanRow scanTurn scanAll scanDense toScan searchTurn searchFrom searchPath findPathDense areaOf sideOf interOf shareOf overlapOf centreOf unitOf stepTo angleOf cosineOf maskOf termOf aboveOf shortcut costsOf assigned keptWhere matchOrLapjv matched rematched someAbove Matching.laterRound angleTerm combined associate reassociate startOf predictOf measureOf boxOf middle directionOf noFilter birthOf areaHeld trackPredict stateBox oldestOf previousOf kPreviousOf headingOf trackBox freezes trackMiss ownRules unitRange inRange blank stateOf emptyTracker trackRules stateRules detectionAt objectsOf firstScore spareScore firstRound laterRound rounds early hasNan predictedTracks viewOf reportOf isReported frameOf rectOf
 settled = (refl, (refl, (refl, (refl, (refl, (refl, (refl, (refl, (refl, (refl, (refl, (refl, (refl, (refl, (refl, (refl, (refl, (refl, (refl, tt)))))))))))))))))))

@@ -10,8 +10,8 @@ use Rattle.object.specs.declared.Corners.{Corners}
 use Rattle.object.specs.declared.Detection.{Detection}
 use Rattle.lapjv_walk.specs.Ops.{floats}
 use Rattle.lapjv_walk.specs.Lapjv.{lapjv}
-use Rattle.assoc.specs.Overlap.{overlapOf}
-use Rattle.assoc.specs.Angle.{angleOf}
+use Rattle.pair.specs.Overlap.{overlapOf}
+use Rattle.pair.specs.Angle.{angleOf}
 use Rattle.strack.specs.declared.Direction.the-variants.{Known}
 use Rattle.strack.specs.Boxes.{measureOf, boxOf, directionOf}
 use Rattle.strack.specs.Track.{seenOf}

@@ -1,7 +1,7 @@
 // That the comparisons would see a change: each is shown one.
-use crate::compare;
-use crate::say;
-use crate::scenes;
+use edge_scenes::compare;
+use edge_scenes::say;
+use edge_scenes::scenes;
 use frame::Settings;
 use frame::Tracker;
 use strack::Track;

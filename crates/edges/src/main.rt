@@ -1,12 +1,9 @@
 // Document 01's checks at the edges that no theorem settles, and each refusal, executed: a line for each call, with what
 // was got. The file `stdout` beside it has what document 01 asks.
-mod compare;
 mod controls;
 mod making;
 mod order;
 mod room;
-mod say;
-mod scenes;
 mod scores;
 mod unsound;
 

@@ -1,7 +1,7 @@
 // Row 2: each setting just outside its range and just inside.
-use crate::compare;
-use crate::say;
-use crate::scenes;
+use edge_scenes::compare;
+use edge_scenes::say;
+use edge_scenes::scenes;
 use frame::Made;
 use frame::Settings;
 use frame::Tracker;

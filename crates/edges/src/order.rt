@@ -1,6 +1,6 @@
 // Rows 3 to 6, and the order of the tests.
-use crate::compare;
-use crate::scenes;
+use edge_scenes::compare;
+use edge_scenes::scenes;
 use frame::Tracker;
 
 pub fn lengths() {

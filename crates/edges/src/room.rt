@@ -1,7 +1,7 @@
 // 64 objects, row 7, and a frame after a refusal.
-use crate::compare;
-use crate::say;
-use crate::scenes;
+use edge_scenes::compare;
+use edge_scenes::say;
+use edge_scenes::scenes;
 use frame::Settings;
 use frame::Tracker;
 

@@ -1,5 +1,5 @@
 // Item 6: score > det_thresh is first-class, else > 0.1 is spare; the others are dropped.
-use crate::scenes;
+use edge_scenes::scenes;
 use frame::Settings;
 use frame::Tracker;
 

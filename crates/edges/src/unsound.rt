@@ -1,5 +1,5 @@
 // Row 1: each state rule broken by itself, and at its bound.
-use crate::scenes;
+use edge_scenes::scenes;
 use frame::Settings;
 use frame::Tracker;
 use kalman_filter::DetectBox;

@@ -14,7 +14,7 @@ use Rattle.object.specs.declared.Rect.{Rect}
 use Rattle.object.specs.Object.{cornersOf, rectOf}
 use Rattle.object.specs.declared.Refusal.{Refusal}
 use Rattle.object.specs.declared.Refusal.the-variants.{UnsoundState, BadSetting, RaggedFrame, CrowdedFrame, ShortAnswer, RunOver, FullTable, BadMatrix}
-use Rattle.assoc.specs.Angle.{Step}
+use Rattle.pair.specs.Angle.{Step}
 use Rattle.strack.specs.declared.LastBox.{LastBox}
 use Rattle.strack.specs.declared.LastBox.the-variants.{Unseen, Seen}
 use Rattle.strack.specs.declared.Direction.{Direction}

@@ -9,7 +9,7 @@ use lib.ListN.{length, getD, set}
 use Rattle.lists.specs.Lists.{pick}
 use Rattle.object.specs.declared.Corners.{Corners}
 use Rattle.object.specs.declared.Detection.{Detection}
-use Rattle.assoc.specs.Angle.{Step}
+use Rattle.pair.specs.Angle.{Step}
 use Rattle.strack.specs.declared.LastBox.the-variants.{Unseen}
 use Rattle.strack.specs.declared.Kept.{Kept}
 use Rattle.strack.specs.Track.{seenOf}

@@ -16,7 +16,7 @@ use Rattle.object.specs.declared.Corners.{Corners}
 use Rattle.object.specs.declared.Detection.{Detection}
 use Rattle.strack.specs.declared.Kept.{Kept}
 use Rattle.lapjv_walk.specs.Marks.{free}
-use Rattle.assoc.specs.Angle.{Step}
+use Rattle.pair.specs.Angle.{Step}
 use Rattle.assoc.specs.Associate.{detAt, cornersAt, stepAt, overlaps, combined, associate, reassociate}
 use Rattle.assoc.specs.Matching.{matched}
 use Rattle.assoc.specs.Paired.{Paired}

@@ -3,7 +3,7 @@ use mathlib.Core.List.{List, [], _∷_}
 use lib.Ieee.{Float}
 use lib.ListN.{length}
 use Rattle.object.specs.declared.Corners.{Corners}
-use Rattle.assoc.specs.Angle.{Step}
+use Rattle.pair.specs.Angle.{Step}
 use Rattle.frame.specs.Rounds.{View}
 use Rattle.objects.specs.Cells.{flat, padded}
 use Rattle.objects.specs.Dets.{fiveOf}

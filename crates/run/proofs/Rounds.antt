@@ -17,7 +17,7 @@ use Rattle.lists.specs.Lists.{pick, keep, sumOf, All}
 use Rattle.lists.proofs.All.{keep-all}
 use Rattle.object.specs.declared.Corners.{Corners}
 use Rattle.object.specs.Object.{cornersOf}
-use Rattle.assoc.specs.Overlap.{overlapOf}
+use Rattle.pair.specs.Overlap.{overlapOf}
 use Rattle.lapjv_walk.specs.Marks.{markAt}
 use Rattle.lapjv_walk.proofs.Cases.{pos-inj, pos-free, never, and-left, and-right}
 use Rattle.assoc.specs.Associate.{overlaps, associate, reassociate}

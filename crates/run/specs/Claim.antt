@@ -10,7 +10,7 @@ use lib.ListN.{length, getD}
 use Rattle.lists.specs.Lists.{pick, sumOf}
 use Rattle.object.specs.declared.Corners.{Corners}
 use Rattle.object.specs.Object.{cornersOf}
-use Rattle.assoc.specs.Overlap.{overlapOf}
+use Rattle.pair.specs.Overlap.{overlapOf}
 use Rattle.frame.specs.declared.Settings.{Settings}
 use Rattle.frame.specs.Objects.{Obj}
 use Rattle.frame.specs.Rounds.{View}

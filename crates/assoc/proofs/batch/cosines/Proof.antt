@@ -3,8 +3,7 @@ use Prim.Native.Nat.{_-_}
 use native.Mathlib.Omega.{arith}
 use lib.Ieee.{binary32, nan, sub}
 use lib.ListN.{getD}
-use Rattle.assoc.specs.Angle.{cosineOf}
-use Rattle.assoc.specs.Passes.{unitOf}
+use Rattle.pair.specs.Angle.{cosineOf, unitOf}
 use Rattle.assoc.specs.Associate.{stepAt}
 use Rattle.assoc.proofs.Loops.{Filling, filling-none, filling-more, filling-done}
 use borrow.Author.Needs.{needs}

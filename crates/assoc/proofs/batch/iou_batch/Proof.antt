@@ -5,7 +5,7 @@ use native.Mathlib.Omega.{arith}
 use lib.ListN.{length}
 use Rattle.object.specs.declared.Corners.{Corners}
 use Rattle.object.specs.Object.{cornersOf}
-use Rattle.assoc.specs.Overlap.{overlapOf}
+use Rattle.pair.specs.Overlap.{overlapOf}
 use Rattle.assoc.specs.Associate.{detAt, cornersAt, overlaps}
 use Rattle.assoc.specs.Cells.{overlapCells}
 use Rattle.assoc.proofs.Loops.{row-ends, Filling}

@@ -2,7 +2,7 @@
 use mathlib.Core.Path.{ap, _∙_}
 use Prim.Native.Nat.{_-_}
 use native.Mathlib.Omega.{arith}
-use Rattle.assoc.specs.Overlap.{overlapOf}
+use Rattle.pair.specs.Overlap.{overlapOf}
 use Rattle.assoc.specs.Associate.{cornersAt}
 use Rattle.assoc.proofs.Loops.{Filling, filling-none, filling-more, filling-done}
 use borrow.Author.Needs.{needs}

@@ -3,7 +3,7 @@ use Prim.Native.Nat.{_-_}
 use native.Mathlib.Omega.{arith}
 use lib.Ieee.{binary32, nan, add}
 use lib.ListN.{getD}
-use Rattle.assoc.specs.Angle.{angleOf, maskOf, termOf}
+use Rattle.pair.specs.Angle.{angleOf, maskOf, termOf}
 use Rattle.assoc.specs.Associate.{detAt}
 use Rattle.assoc.proofs.Loops.{Filling, filling-none, filling-more, filling-done}
 use borrow.Author.Needs.{needs}

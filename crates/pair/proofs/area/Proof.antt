@@ -1,0 +1,13 @@
+-- `pair::area` meets its contract. Assumes nothing.
+use borrow.Author.Needs.{needs}
+use mathlib.Core.Path.{refl}
+use Rattle.pair.specs.Overlap.{areaOf}
+use Rattle.pair.proofs.area.Statement.{statement}
+use Rattle.pair.proofs.area.Tie as tie
+
+returns : tie.Need-returns
+unfolding areaOf
+returns c = refl
+
+pub area-spec : {M : Type 1} → statement M
+area-spec = tie.close (tie.spec returns)
