@@ -14,7 +14,7 @@ use Rattle.object.specs.declared.Corners.{Corners}
 use Rattle.assoc.specs.Associate.{cornersAt, associate, reassociate}
 use Rattle.frame.specs.declared.Settings.{Settings}
 use Rattle.frame.specs.Objects.{Obj, objectAt, objectsOf, firstClass, spares, firstScore, spareScore}
-use Rattle.frame.specs.Rounds.{View, Slot, Work, emptySlot, noView, noSlot, noCorners, slotAt, viewAt, detOf, openFrom, placeOf, leftBy, firstRound, laterRound, rounds}
+use Rattle.frame.specs.Rounds.{View, Slot, Work, seat, emptySlot, noView, noSlot, noCorners, slotAt, viewAt, detOf, openFrom, placeOf, leftBy, firstRound, laterRound, rounds}
 use Rattle.frame.proofs.Seats.{seat-views}
 use Rattle.objects.specs.declared.Dets.{Dets}
 use Rattle.objects.specs.Dets.{detsOf}
@@ -22,7 +22,8 @@ use Rattle.objects.proofs.Pushing.{dets-count}
 use Rattle.rounds.specs.declared.Pairing.{Pairing}
 use Rattle.rounds.specs.declared.views.Views.{Views}
 use Rattle.rounds.specs.Views.{viewsOf}
-use Rattle.rounds.specs.Grants.{LeftOf}
+use Rattle.strack.specs.declared.Kept.{Kept}
+use Rattle.rounds.specs.Grants.{grantsOf, LeftOf}
 use Rattle.rounds.specs.Pairs.{Pairs, FirstOf, LaterOf}
 use Rattle.rounds.proofs.Seeing.{views-count, boxes-at, lasts-at}
 use Rattle.rounds.proofs.Opening.{take-few}
@@ -84,6 +85,24 @@ module _ (s : Settings) (vs : List View) (os : List Obj) (v : Views) (d₀ d₁ 
       let b : Pairs w₁ r₁
       = h₁ 1 (λ (x : View). x .box) s (w₀ .slots) (pick (s .«use_byte») (spares s os) []) refl (ap (λ (x : Views). cornersAt (x .boxes)) e ∙ boxes-at vs ∙ same-targets (w₀ .slots) vs v₀ (λ (x : View). x .box)) (n ∙ same-count (w₀ .slots) vs v₀) g (a .0) in
       h₂ 2 (λ (x : View). x .last) s (w₁ .slots) (w₀ .left) refl (ap (λ (x : Views). cornersAt (x .lasts)) e ∙ lasts-at vs ∙ same-targets (w₁ .slots) vs v₁ (λ (x : View). x .last)) (n ∙ same-count (w₁ .slots) vs v₁) (a .1) (b .0)
+
+-- ---- a round without objects
+
+seat-none : (k : ℕ) (ms : List ℤ) (ss : List Slot) → seat k ms [] ss ≡ ss
+seat-none k [] ss = refl
+seat-none k (m ∷ ms) ss = refl
+
+left-none : (ms : List ℤ) → leftBy ms [] ≡ []
+left-none [] = refl
+left-none (m ∷ ms) = refl
+
+pub later-nothing : (thr : Float) (boxes : List Float) (count : ℕ) (d : Dets) (grants : List Kept) → d .n ≡ 0 → LaterOf thr boxes count d grants (record { grants = grants; left = d })
+unfolding laterRound
+later-nothing thr boxes count d grants z k target s ss os e f n g h = go os (sym (dets-count os) ∙ sym (ap (λ (x : Dets). x .n) g) ∙ z) g
+  where
+    go : (os : List Obj) → length os ≡ 0 → d ≡ detsOf os → Pairs (laterRound k target s ss os) (record { grants = grants; left = d })
+    go [] l p = (h ∙ ap grantsOf (sym (seat-none k (laterMarks target s ss []) ss)), p ∙ ap detsOf (sym (left-none (laterMarks target s ss []))))
+    go (o ∷ os) l p = absurd (let y : _≡_ {A = ℕ} 1 0 = omega (arith, l) in omega (arith, y))
 
 -- ---- 64 at most
 

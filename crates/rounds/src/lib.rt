@@ -66,8 +66,8 @@ fn first_round(s: Settings, v: Views, dets: Dets) -> Pairing
     by_marks(marks, places, dets, none)
 }
 
-// A later round: these objects and the tracks that are still open, by overlap with one box of each track.
-fn later_round(thr: f32, boxes: [f32; 256], count: usize, dets: Dets, grants: [Kept; 64]) -> Pairing
+// These objects and the tracks that are still open, by overlap with one box of each track.
+fn rematched(thr: f32, boxes: [f32; 256], count: usize, dets: Dets, grants: [Kept; 64]) -> Pairing
     requires { ⌜ (count ≤ 64) × (dets .n ≤ 64) ⌝ }
     ensures { λ r. ⌜ LaterOf thr boxes count dets grants r ⌝ }
 {
@@ -76,6 +76,17 @@ fn later_round(thr: f32, boxes: [f32; 256], count: usize, dets: Dets, grants: [K
     let targets = grants::gather(boxes, places);
     let marks = assoc::lap::simple_iou_match(thr, &cells, dets.n, &targets, places.n);
     by_marks(marks, places, dets, grants)
+}
+
+// A later round. Without objects, as in most frames, there is nothing to pair.
+fn later_round(thr: f32, boxes: [f32; 256], count: usize, dets: Dets, grants: [Kept; 64]) -> Pairing
+    requires { ⌜ (count ≤ 64) × (dets .n ≤ 64) ⌝ }
+    ensures { λ r. ⌜ LaterOf thr boxes count dets grants r ⌝ }
+{
+    if dets.n == 0 {
+        return Pairing { grants, left: dets };
+    }
+    rematched(thr, boxes, count, dets, grants)
 }
 
 // The spares, where `use_byte` lets them in.
