@@ -6,8 +6,8 @@
  *
  * No call allocates, keeps a pointer or has state of its own: the tracker is
  * the SatinjacksTracker that the caller holds. Copy, store or send its bytes
- * as you like; calls on different trackers may run at the same time. A call
- * needs up to 430 KiB of stack.
+ * as you like; calls on different trackers may run at the same time. A frame
+ * needs up to 180 KiB of stack, making a tracker up to 271 KiB.
  *
  * Where a pointer is followed by a length, the length counts elements, and
  * the pointer is to at least as many, aligned. An empty slice still needs a
