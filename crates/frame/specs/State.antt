@@ -8,7 +8,10 @@ use lib.ListN.{length, take, replicate}
 use Rattle.ieee.specs.Ops.{f32}
 use Rattle.lists.specs.Lists.{every}
 use Rattle.strack.specs.declared.Track.{Track}
-use Rattle.strack.specs.Track.{birthOf}
+use Rattle.strack.specs.declared.LastBox.the-variants.{Unseen}
+use Rattle.strack.specs.declared.ListBox.the-variants.{Empty}
+use Rattle.strack.specs.declared.Direction.the-variants.{Unknown}
+use Rattle.strack.specs.Track.{noFilter, keptOf}
 use Rattle.strack.specs.Rules.{ownRules}
 use Rattle.frame.specs.declared.Settings.{Settings}
 use Rattle.frame.specs.declared.Tracked.{Tracked}
@@ -29,12 +32,23 @@ inRange s =
 
 -- ---- the table
 
-abbrev zero : Float
-zero = f32 0
-
--- what stands in a cell of the table that no track holds: a track born of five zeros, under id 0
+-- what stands in a cell of the table that no track holds: nothing seen, and zeros
 unfoldable pub blank : Tracked
-blank = record { id = 0; track = birthOf (record { x1 = zero; y1 = zero; x2 = zero; y2 = zero; score = zero }) }
+blank = record {
+  id = 0;
+  track = record {
+    filter = noFilter;
+    saved = noFilter;
+    frozen = false;
+    age = 0;
+    streak = 0;
+    since = 0;
+    last = Unseen;
+    list = Empty;
+    direction = Unknown;
+    kept = replicate 8 (keptOf Unseen);
+  };
+}
 
 -- the live tracks, in birth order
 abbrev pub live : Tracker → List Tracked

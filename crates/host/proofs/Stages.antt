@@ -10,7 +10,7 @@ use lib.Dec.{leb, ltb}
 use lib.Ieee.{Float}
 use lib.ListN.{length, take, drop, getD, set, replicate, length-append, length-map, length-replicate, List·getD-map, List·getD-append}
 use lib.Seq.{sets, take-length, length-take-le}
-use Rattle.lists.specs.Lists.{pick, keep, every, tab}
+use Rattle.lists.specs.Lists.{pick, keep, every, tab, flat}
 use Rattle.lists.proofs.Tab.{length-tab}
 use Rattle.lapjv_walk.proofs.Cases.{and-left, and-right}
 use Rattle.object.specs.declared.Detection.{Detection}
@@ -27,7 +27,7 @@ use Rattle.frame.specs.Contract.{callOf}
 use Rattle.frame.proofs.Seats.{rounds-length}
 use Rattle.frame.proofs.Rules.{Sound, sound}
 use Rattle.rules.specs.Rules.{totalRules, soundAt}
-use Rattle.objects.specs.Cells.{flat, padded}
+use Rattle.objects.specs.Cells.{padded}
 use Rattle.objects.specs.Dets.{fiveOf, detsIn}
 use Rattle.rounds.specs.declared.Pairing.{Pairing}
 use Rattle.rounds.specs.declared.views.Views.{Views}

@@ -1,13 +1,13 @@
--- Laws of `All`, of maps, of `keep` and of sums over lists. Assumes nothing.
+-- Laws of `All`, of maps, of `flat`, of `keep` and of sums over lists. Assumes nothing.
 use mathlib.Core.Path.{_≡_, refl, sym, ap, ap₂, subst, _∙_}
 use mathlib.Core.Bool.{Bool, true, false}
-use mathlib.Core.List.{List, [], _∷_, _++_, map, List·Memᴰ, List·Memᴰ·cases-cons, List·Memᴰ·head, List·Memᴰ·tail, List·Memᴰ·not-nil}
+use mathlib.Core.List.{List, [], _∷_, _++_, map, append-assoc, List·Memᴰ, List·Memᴰ·cases-cons, List·Memᴰ·head, List·Memᴰ·tail, List·Memᴰ·not-nil}
 use mathlib.Core.Logic.{⊎-elim}
-use Prim.Native.Nat.{ℕ, zero, suc, _+_, _≤_, _<_}
+use Prim.Native.Nat.{ℕ, zero, suc, _+_, _*_, _≤_, _<_}
 use native.Mathlib.Nat.{add-zero, suc-add, add-suc, zero-add, not-suc-le-zero, le-of-suc-le-suc}
 use native.Mathlib.Omega.{arith}
-use lib.ListN.{length, getD, set}
-use Rattle.lists.specs.Lists.{put, keep, sumOf, upFrom, All}
+use lib.ListN.{length, getD, set, length-append}
+use Rattle.lists.specs.Lists.{put, keep, flat, sumOf, upFrom, All}
 
 -- ---- All
 
@@ -95,3 +95,13 @@ sum-set f (x ∷ xs) (suc i) a d l h = omega (arith, sum-set f xs i a d (le-of-s
 pub upFrom-append : (i m k : ℕ) → upFrom i m ++ upFrom (i + m) k ≡ upFrom i (m + k)
 upFrom-append i zero k = rw (add-zero i, zero-add k)
 upFrom-append i (suc m) k = rw (suc-add m k) (ap (λ l. i ∷ l) (rw (add-suc i m, ← suc-add i m) (upFrom-append (suc i) m k)))
+
+-- ---- flat
+
+pub flat-append : {A B : Type 0} (f : A → List B) (xs ys : List A) → flat f (xs ++ ys) ≡ flat f xs ++ flat f ys
+flat-append f [] ys = refl
+flat-append {A} {B} f (x ∷ xs) ys = ap (λ (l : List B). f x ++ l) (flat-append f xs ys) ∙ sym (append-assoc (f x) (flat f xs) (flat f ys))
+
+pub flat-long : {A B : Type 0} (f : A → List B) (w : ℕ) (xs : List A) → All (λ (x : A). length (f x) ≡ w) xs → length (flat f xs) ≡ w * length xs
+flat-long f w [] a = omega arith
+flat-long f w (x ∷ xs) a = omega (arith, length-append (f x) (flat f xs), a .0, flat-long f w xs (a .1))

@@ -32,6 +32,11 @@ abbrev pub every {ℓ} : {A : Type ℓ} → (A → Bool) → List A → Bool
 every p [] = true
 every p (a ∷ l) = p a && every p l
 
+-- f of each element, one list after another
+abbrev pub flat : {A B : Type 0} → (A → List B) → List A → List B
+flat f [] = []
+flat f (a ∷ l) = f a ++ flat f l
+
 abbrev pub sumOf {ℓ} : {A : Type ℓ} → (A → ℕ) → List A → ℕ
 sumOf f [] = 0
 sumOf f (a ∷ l) = f a + sumOf f l

@@ -7,7 +7,9 @@ use native.Mathlib.Nat.{add-zero}
 use lib.Ieee.{Float, nan}
 use lib.ListN.{length, getD, drop, replicate, length-append, length-replicate, List·getD-append, replicate-append-replicate}
 use lib.Seq.{sets, sets-eq, take-at, drop-append-add, drop-at, getD-append-add}
-use Rattle.objects.specs.Cells.{flat, padded}
+use Rattle.lists.specs.Lists.{flat}
+use Rattle.lists.proofs.All.{flat-append}
+use Rattle.objects.specs.Cells.{padded}
 
 -- ---- padding
 
@@ -43,10 +45,6 @@ pub padded-length : (n : ℕ) (l : List Float) → length l ≤ n → length (pa
 padded-length n l h = omega (arith, length-append l (replicate (n - length l) nan), length-replicate (n - length l) nan)
 
 -- ---- entries
-
-pub flat-append : {A : Type 0} (f : A → List Float) (xs ys : List A) → flat f (xs ++ ys) ≡ flat f xs ++ flat f ys
-flat-append f [] ys = refl
-flat-append f (x ∷ xs) ys = ap (λ (l : List Float). f x ++ l) (flat-append f xs ys) ∙ sym (append-assoc (f x) (flat f xs) (flat f ys))
 
 module _ {A : Type 0} (f : A → List Float) (w : ℕ) (wide : (x : A) → length (f x) ≡ w) where
   pub flat-length : (xs : List A) → length (flat f xs) ≡ w * length xs

@@ -11,7 +11,8 @@ use Rattle.object.specs.declared.Detection.{Detection}
 use Rattle.assoc.specs.Associate.{detAt}
 use Rattle.frame.specs.Objects.{Obj}
 use Rattle.frame.specs.Rounds.{detOf, noObj, noDetection}
-use Rattle.objects.specs.Cells.{flat, padded}
+use Rattle.lists.specs.Lists.{flat}
+use Rattle.objects.specs.Cells.{padded}
 use Rattle.objects.specs.Dets.{fiveOf, cellsOf, detsOf, detsIn}
 use Rattle.objects.proofs.Cells.{padded-at, padded-first, padded-length, flat-length}
 use Rattle.objects.proofs.Pushing.{dets-count}

@@ -4,12 +4,12 @@ use Prim.Native.Nat.{_+_, _*_}
 use lib.Ieee.{Float}
 use lib.ListN.{length}
 use lib.Seq.{sets}
-use Rattle.lists.specs.Lists.{tab}
+use Rattle.lists.specs.Lists.{tab, flat}
 use Rattle.object.specs.declared.Detection.{Detection}
 use Rattle.assoc.specs.Associate.{detAt}
 use Rattle.frame.specs.Objects.{Obj}
 use Rattle.objects.specs.declared.Dets.{Dets}
-use Rattle.objects.specs.Cells.{flat, padded}
+use Rattle.objects.specs.Cells.{padded}
 
 abbrev pub fiveOf : Detection → List Float
 fiveOf d = d .x1 ∷ d .y1 ∷ d .x2 ∷ d .y2 ∷ d .score ∷ []

@@ -10,7 +10,7 @@ use native.Mathlib.Omega.{arith}
 use lib.Ieee.{Float}
 use lib.ListN.{length, getD, take, replicate, length-append, length-map, List·getD-map}
 use lib.Seq.{sets, take-suc, take-at, take-length, length-take-le}
-use Rattle.lists.specs.Lists.{pick, tab, put, keep, All}
+use Rattle.lists.specs.Lists.{pick, tab, put, keep, All, flat}
 use Rattle.lists.proofs.Tab.{length-tab}
 use Rattle.lists.proofs.Keep.{keep-append, keep-short}
 use Rattle.lists.proofs.All.{all-append, keep-all, map-append}
@@ -18,7 +18,6 @@ use Rattle.object.specs.declared.Corners.{Corners}
 use Rattle.strack.specs.declared.Kept.{Kept}
 use Rattle.assoc.specs.Associate.{cornersAt}
 use Rattle.frame.specs.Rounds.{Grant, Slot, noSlot, slotAt, noCorners, unlessGranted, openFrom, keptOf, grantOf}
-use Rattle.objects.specs.Cells.{flat}
 use Rattle.objects.proofs.Cells.{getD-padding, sets-padding, flat-push, flat-length, padded-length}
 use Rattle.rounds.specs.declared.grants.Places.{Places}
 use Rattle.rounds.specs.Views.{fourOf}

@@ -11,7 +11,8 @@ use Rattle.lists.proofs.All.{map-append}
 use Rattle.object.specs.declared.Corners.{Corners}
 use Rattle.assoc.specs.Associate.{detAt, cornersAt, stepAt}
 use Rattle.frame.specs.Rounds.{View, noView, noCorners, viewAt}
-use Rattle.objects.specs.Cells.{flat, padded}
+use Rattle.lists.specs.Lists.{flat}
+use Rattle.objects.specs.Cells.{padded}
 use Rattle.objects.proofs.Cells.{flat-push, flat-length, padded-length, padded-at, padded-first}
 use Rattle.objects.proofs.Reading.{five-at}
 use Rattle.rounds.specs.Views.{fourOf, twoOf, viewsOf}

@@ -7,7 +7,7 @@ use Prim.Native.Nat.{ℕ, _+_, _-_, _<_}
 use lib.Ieee.{Float}
 use lib.IntN.{ℤ, pos, negsuc}
 use lib.ListN.{length, getD, set, replicate}
-use Rattle.lists.specs.Lists.{tab, keep}
+use Rattle.lists.specs.Lists.{tab, keep, flat}
 use Rattle.object.specs.declared.Corners.{Corners}
 use Rattle.object.specs.declared.Detection.{Detection}
 use Rattle.strack.specs.declared.LastBox.the-variants.{Unseen}
@@ -16,7 +16,7 @@ use Rattle.strack.specs.Track.{seenOf, isSeen}
 use Rattle.frame.specs.Objects.{Obj}
 use Rattle.frame.specs.Rounds.{Slot, leftBy, keptOf, grantOf}
 use Rattle.objects.specs.declared.Dets.{Dets}
-use Rattle.objects.specs.Cells.{flat, padded}
+use Rattle.objects.specs.Cells.{padded}
 use Rattle.objects.specs.Dets.{detsOf}
 use Rattle.rounds.specs.declared.grants.Places.{Places}
 use Rattle.rounds.specs.Views.{fourOf}

@@ -5,7 +5,8 @@ use lib.ListN.{length}
 use Rattle.object.specs.declared.Corners.{Corners}
 use Rattle.pair.specs.Angle.{Step}
 use Rattle.frame.specs.Rounds.{View}
-use Rattle.objects.specs.Cells.{flat, padded}
+use Rattle.lists.specs.Lists.{flat}
+use Rattle.objects.specs.Cells.{padded}
 use Rattle.objects.specs.Dets.{fiveOf}
 use Rattle.rounds.specs.declared.views.Views.{Views}
 

@@ -126,7 +126,7 @@ fn is_seen(l: LastBox) -> bool
 // ---- birth
 
 // The saved filter of a track that is not frozen.
-fn no_filter() -> Filter
+pub fn no_filter() -> Filter
     ensures { λ r. ⌜ r ≡ noFilter ⌝ }
 {
     let x = [0.0f32; 7];

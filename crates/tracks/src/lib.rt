@@ -6,8 +6,11 @@ use frame::Tracker;
 use object::Corners;
 use object::Detection;
 use objects::Dets;
+use strack::Direction;
 use strack::Kept;
 use strack::LastBox;
+use strack::ListBox;
+use strack::Track;
 ghost use mathlib.Core.Path.{_≡_};
 ghost use mathlib.Core.Bool.{true};
 ghost use mathlib.Core.List.{[], _++_};
@@ -28,17 +31,23 @@ pub struct Tracks {
 pub fn blank() -> Tracked
     ensures { λ r. ⌜ r ≡ blank ⌝ }
 {
-    let d = Detection {
-        x1: 0.0,
-        y1: 0.0,
-        x2: 0.0,
-        y2: 0.0,
-        score: 0.0,
+    let none = strack::no_filter();
+    let unseen = Kept {
+        at: LastBox::Unseen,
     };
-    Tracked {
-        id: 0,
-        track: strack::birth(d),
-    }
+    let track = Track {
+        filter: none,
+        saved: none,
+        frozen: false,
+        age: 0,
+        streak: 0,
+        since: 0,
+        last: LastBox::Unseen,
+        list: ListBox::Empty,
+        direction: Direction::Unknown,
+        kept: [unseen; 8],
+    };
+    Tracked { id: 0, track }
 }
 
 // No tracks.

@@ -5,7 +5,8 @@ use native.Mathlib.Omega.{arith}
 use lib.ListN.{length}
 use Rattle.frame.specs.Rounds.{View}
 use Rattle.frame.specs.Frame.{trackedView}
-use Rattle.objects.specs.Cells.{flat, padded}
+use Rattle.lists.specs.Lists.{flat}
+use Rattle.objects.specs.Cells.{padded}
 use Rattle.objects.specs.Dets.{fiveOf}
 use Rattle.rounds.specs.Views.{fourOf, twoOf, viewsOf}
 use Rattle.rounds.proofs.Seeing.{seen, seen-count, filled-long, turn}
