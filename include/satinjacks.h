@@ -2,16 +2,19 @@
  * Satinjacks: boxes of animals in, frame by frame, identified tracks out.
  *
  * Link target/staticlib/libhost.a, which `rt staticlib host` writes (x86-64,
- * System V calling convention; of libc it needs memcpy and memset).
+ * System V calling convention; of libc it needs memcpy, memmove, memset).
  *
  * No call allocates, keeps a pointer or has state of its own: the tracker is
  * the SatinjacksTracker that the caller holds. Copy, store or send its bytes
  * as you like; calls on different trackers may run at the same time. A frame
- * needs up to 180 KiB of stack, making a tracker up to 271 KiB.
+ * needs up to 149 KiB of stack, making a tracker up to 94 KiB.
  *
  * Where a pointer is followed by a length, the length counts elements, and
  * the pointer is to at least as many, aligned. An empty slice still needs a
  * pointer that is not null. image, boxes, ids and input must not overlap.
+ *
+ * satinjacks_new, satinjacks_with_settings and satinjacks_update stand here:
+ * they lend the tracker's three lists to the calls that the library exports.
  */
 #ifndef SATINJACKS_H
 #define SATINJACKS_H
@@ -41,19 +44,15 @@ enum {
     SATINJACKS_BAD_MATRIX = 8     /* the assignment's sizes don't agree */
 };
 
-/* A tag `is` is 0 where there is none, 1 where there is one. */
 typedef struct {
-    uint32_t is;
     float x1, y1, x2, y2, score;
 } SatinjacksBox;
 
 typedef struct {
-    uint32_t is;
     float x, y, s, r; /* centre, area, width over height */
 } SatinjacksListBox;
 
 typedef struct {
-    uint32_t is;
     float dy, dx;
 } SatinjacksDirection;
 
@@ -62,31 +61,53 @@ typedef struct {
     float p[49];
 } SatinjacksFilter;
 
-/* 720 bytes. A report's id is `id` plus 1. */
+/* The floats of a track, 163. */
 typedef struct {
-    uint64_t id;
     SatinjacksFilter filter, saved;
-    uint32_t frozen, age, streak, since;
     SatinjacksBox last;
     SatinjacksListBox list;
     SatinjacksDirection direction;
     SatinjacksBox kept[8];
-} SatinjacksTrack;
+} SatinjacksTrackFloats;
+
+/* The words of a track, 15. A tag `has_` is 0 where there is none, 1 where there is one; frozen is 0 or 1. */
+typedef struct {
+    uint32_t frozen, age, streak, since;
+    uint32_t has_last, has_list, has_direction, has_kept[8];
+} SatinjacksTrackWords;
 
 /*
- * The whole tracker, 46,128 bytes: too much for some stacks, so better in
- * static storage or on the heap. Read `issued` (ids given so far), `count`
- * (live tracks) and `frames` at any time; cells of `tracks` past `count` mean
- * nothing.
+ * The whole tracker, 46,128 bytes without padding: too much for some stacks,
+ * so better in static storage or on the heap. It is three lists of numbers,
+ * one for each type; track k is id[k], floats[k] and words[k]. Read `issued`
+ * (ids given so far), `count` (live tracks) and `frames` at any time. Cells of
+ * tracks past `count` mean nothing; a tracker that is made and an accepted
+ * frame have zeros there.
  */
 typedef struct {
-    uint64_t issued;
-    size_t count;
+    /* wide: 66 */
+    uint64_t issued, count;
+    uint64_t id[64]; /* a report's id is one more */
+    /* floats: 10,435 */
     float det_thresh, iou_threshold, inertia;
+    SatinjacksTrackFloats floats[64];
+    /* words: 965 */
     uint32_t max_age, min_hits, delta_t, use_byte;
     uint32_t frames;
-    SatinjacksTrack tracks[64];
+    SatinjacksTrackWords words[64];
 } SatinjacksTracker;
+
+#if defined(__cplusplus) && __cplusplus >= 201103L
+#define SATINJACKS_ASSERT(c, why) static_assert(c, why)
+#elif defined(__STDC_VERSION__) && __STDC_VERSION__ >= 201112L
+#define SATINJACKS_ASSERT(c, why) _Static_assert(c, why)
+#else
+#define SATINJACKS_ASSERT(c, why) struct satinjacks_no_assert
+#endif
+SATINJACKS_ASSERT(offsetof(SatinjacksTracker, det_thresh) == 8 * 66, "wide is 66 numbers");
+SATINJACKS_ASSERT(offsetof(SatinjacksTracker, max_age) == 8 * 66 + 4 * 10435, "floats is 10,435 numbers");
+SATINJACKS_ASSERT(sizeof(SatinjacksTracker) == 46128, "words is 965 numbers, and nothing follows");
+#undef SATINJACKS_ASSERT
 
 typedef struct {
     float det_thresh;    /* not NaN: the score above which an object may begin a track */
@@ -104,13 +125,56 @@ typedef struct {
 } SatinjacksReply;
 
 /*
+ * What the library exports: the calls below on a tracker's three lists, 66
+ * numbers wide, 10,435 floats and 965 words. They need not stand together,
+ * but must not overlap.
+ */
+uint64_t satinjacks_new_lists(uint64_t *wide, float *floats, uint32_t *words, float det_thresh);
+uint64_t satinjacks_with_settings_lists(uint64_t *wide, float *floats, uint32_t *words, SatinjacksSettings settings);
+SatinjacksReply satinjacks_update_lists(uint64_t *wide, float *floats, uint32_t *words,
+                                        const float *input, size_t input_len,
+                                        float *boxes, size_t boxes_len,
+                                        uint64_t *ids, size_t ids_len);
+
+/*
+ * Pairs n rows and n columns, n from 1 to 64, by n*n costs given row after
+ * row: x gets each row's column, y each column's row. 0, or 8: then nothing
+ * is written.
+ */
+uint64_t satinjacks_assign(size_t n, const double *cost, size_t cost_len,
+                           int64_t *x, size_t x_len, int64_t *y, size_t y_len);
+
+/* A tracker's lists; from the tracker's own pointer, since each goes past the field that it begins with. */
+static inline uint64_t *satinjacks_wide(SatinjacksTracker *image)
+{
+    return (uint64_t *)(void *)image;
+}
+
+static inline float *satinjacks_floats(SatinjacksTracker *image)
+{
+    return (float *)(void *)((char *)image + offsetof(SatinjacksTracker, det_thresh));
+}
+
+static inline uint32_t *satinjacks_words(SatinjacksTracker *image)
+{
+    return (uint32_t *)(void *)((char *)image + offsetof(SatinjacksTracker, max_age));
+}
+
+/*
  * Makes a tracker with iou_threshold 0.3, inertia 0.2, max_age 30, min_hits 3,
  * delta_t 3, use_byte 0. 0, or 2: then nothing is written.
  */
-uint64_t satinjacks_new(SatinjacksTracker *image, float det_thresh);
+static inline uint64_t satinjacks_new(SatinjacksTracker *image, float det_thresh)
+{
+    return satinjacks_new_lists(satinjacks_wide(image), satinjacks_floats(image), satinjacks_words(image), det_thresh);
+}
 
 /* The same with all seven settings. */
-uint64_t satinjacks_with_settings(SatinjacksTracker *image, SatinjacksSettings settings);
+static inline uint64_t satinjacks_with_settings(SatinjacksTracker *image, SatinjacksSettings settings)
+{
+    return satinjacks_with_settings_lists(satinjacks_wide(image), satinjacks_floats(image), satinjacks_words(image),
+                                          settings);
+}
 
 /*
  * One frame. The input has x, y, width, height and score of each object, so
@@ -120,18 +184,14 @@ uint64_t satinjacks_with_settings(SatinjacksTracker *image, SatinjacksSettings s
  * were, byte for byte. A frame without animals is a call with input_len 0:
  * without it tracks don't age.
  */
-SatinjacksReply satinjacks_update(SatinjacksTracker *image,
-                                  const float *input, size_t input_len,
-                                  float *boxes, size_t boxes_len,
-                                  uint64_t *ids, size_t ids_len);
-
-/*
- * Pairs n rows and n columns, n from 1 to 64, by n*n costs given row after
- * row: x gets each row's column, y each column's row. 0, or 8: then nothing
- * is written.
- */
-uint64_t satinjacks_assign(size_t n, const double *cost, size_t cost_len,
-                           int64_t *x, size_t x_len, int64_t *y, size_t y_len);
+static inline SatinjacksReply satinjacks_update(SatinjacksTracker *image,
+                                                const float *input, size_t input_len,
+                                                float *boxes, size_t boxes_len,
+                                                uint64_t *ids, size_t ids_len)
+{
+    return satinjacks_update_lists(satinjacks_wide(image), satinjacks_floats(image), satinjacks_words(image),
+                                   input, input_len, boxes, boxes_len, ids, ids_len);
+}
 
 #ifdef __cplusplus
 }

@@ -4,9 +4,6 @@
 #include <stdio.h>
 #include <string.h>
 
-_Static_assert(sizeof(SatinjacksTrack) == 720, "a track is 720 bytes");
-_Static_assert(sizeof(SatinjacksTracker) == 46128, "a tracker is 46,128 bytes");
-
 static SatinjacksTracker tracker, before;
 static float boxes[SATINJACKS_BOXES];
 static uint64_t ids[SATINJACKS_IDS];

@@ -8,12 +8,15 @@
  * Images: those that runs of real frames grew, as they are or with a field
  * damaged, with wild floats, with random bytes past the count, or at the
  * limit of frames; and random bytes. Inputs and buffers of any length and
- * content. Every buffer touches a page that faults, at its end or at its
- * start, and on the other side bytes that must stay.
+ * content. The image is lent whole, or its three lists apart. Every list and
+ * buffer touches a page that faults, at its end or at its start, and on the
+ * other side bytes that must stay.
  *
  * Compared are number, count, every cell of both buffers and the image: an
  * accepted frame leaves the plain form's (all NaNs are one value), a refusal
- * leaves every byte as it was. A refusal that never came is a failure.
+ * leaves every byte as it was. Past the count an accepted frame and a new
+ * tracker have zeros. A refusal that never came is a failure. First, a known
+ * run's numbers must stand where the header's names say.
  */
 #include "satinjacks.h"
 
@@ -31,7 +34,12 @@ Stepped satinjacks_update_by_value(SatinjacksTracker i, const float *input, size
                                    uint64_t *ids, size_t ids_len);
 
 enum { PAGE = 4096, ARENA = 16 * PAGE, GUARD = 256, INPUT_MAX = 420, BOXES_MAX = 300, IDS_MAX = 80, RUNS = 6, LIMIT = 1000000 };
-enum { WORDS = sizeof(SatinjacksTracker) / 4, HEAD = offsetof(SatinjacksTracker, tracks) / 4, CELL = sizeof(SatinjacksTrack) / 4 };
+/* The image as 32-bit words: where floats and words begin, and its end. */
+enum {
+    FLOATS = offsetof(SatinjacksTracker, det_thresh) / 4,
+    WORDS = offsetof(SatinjacksTracker, max_age) / 4,
+    END = sizeof(SatinjacksTracker) / 4
+};
 
 static unsigned long call;
 static unsigned long long seed;
@@ -123,28 +131,7 @@ static int guarded(const Place *p)
 
 /* ---- equality in which all NaNs are one value */
 
-static unsigned char is_float[WORDS];
-
-static void mark(size_t from, size_t floats)
-{
-    CHECK(from % 4 == 0);
-    memset(is_float + from / 4, 1, floats);
-}
-
-static void mark_floats(void)
-{
-    mark(offsetof(SatinjacksTracker, det_thresh), 3);
-    for (size_t k = 0; k < 64; k++) {
-        size_t t = offsetof(SatinjacksTracker, tracks) + k * sizeof(SatinjacksTrack);
-        mark(t + offsetof(SatinjacksTrack, filter), 56);
-        mark(t + offsetof(SatinjacksTrack, saved), 56);
-        mark(t + offsetof(SatinjacksTrack, last) + 4, 5);
-        mark(t + offsetof(SatinjacksTrack, list) + 4, 4);
-        mark(t + offsetof(SatinjacksTrack, direction) + 4, 2);
-        for (size_t j = 0; j < 8; j++)
-            mark(t + offsetof(SatinjacksTrack, kept) + j * sizeof(SatinjacksBox) + 4, 5);
-    }
-}
+static int is_float(size_t k) { return FLOATS <= k && k < WORDS; }
 
 static uint32_t word(const void *p, size_t k)
 {
@@ -167,21 +154,73 @@ static int same_image(const SatinjacksTracker *a, const SatinjacksTracker *b)
 {
     if (memcmp(a, b, sizeof *a) == 0)
         return 1;
-    for (size_t k = 0; k < WORDS; k++)
-        if (word(a, k) != word(b, k) && !(is_float[k] && is_nan(word(a, k)) && is_nan(word(b, k))))
+    for (size_t k = 0; k < END; k++)
+        if (word(a, k) != word(b, k) && !(is_float(k) && is_nan(word(a, k)) && is_nan(word(b, k))))
             return 0;
     return 1;
 }
 
 static size_t live(const SatinjacksTracker *i) { return i->count <= 64 ? i->count : 64; }
 
+/* Where word k of the head stands, and word k of a track: those of wide, of floats, of words. */
+enum { HEAD = 4 + 3 + 5, CELL = 2 + 163 + 15 };
+
+static size_t in_head(size_t k) { return k < 4 ? k : k < 7 ? FLOATS + k - 4 : WORDS + k - 7; }
+
+static size_t in_track(size_t t, size_t k)
+{
+    return k < 2 ? 4 + 2 * t + k : k < 165 ? FLOATS + 3 + 163 * t + k - 2 : WORDS + 5 + 15 * t + k - 165;
+}
+
 static int holds_nan(const SatinjacksTracker *i)
 {
-    for (size_t k = HEAD; k < HEAD + CELL * live(i); k++)
-        if (is_float[k] && is_nan(word(i, k)))
-            return 1;
+    for (size_t t = 0; t < live(i); t++)
+        for (size_t k = 0; k < CELL; k++)
+            if (is_float(in_track(t, k)) && is_nan(word(i, in_track(t, k))))
+                return 1;
     return 0;
 }
+
+static int is_clear_past_the_count(const SatinjacksTracker *i)
+{
+    for (size_t t = live(i); t < 64; t++)
+        for (size_t k = 0; k < CELL; k++)
+            if (word(i, in_track(t, k)) != 0)
+                return 0;
+    return 1;
+}
+
+/* ---- the image as a call gets it: whole, or its lists each in a place of its own */
+
+static Place whole, lists[3];
+static int is_apart;
+static const size_t from[4] = {0, 4 * FLOATS, 4 * WORDS, 4 * END};
+
+static void lend(const SatinjacksTracker *i)
+{
+    is_apart = one_in(2);
+    if (!is_apart)
+        memcpy(lay(&whole, sizeof *i), i, sizeof *i);
+    else
+        for (int k = 0; k < 3; k++)
+            memcpy(lay(&lists[k], from[k + 1] - from[k]), (const unsigned char *)i + from[k], from[k + 1] - from[k]);
+}
+
+static void take_back(SatinjacksTracker *i)
+{
+    if (!is_apart) {
+        CHECK(guarded(&whole));
+        memcpy(i, whole.at, sizeof *i);
+        return;
+    }
+    for (int k = 0; k < 3; k++) {
+        CHECK(guarded(&lists[k]));
+        memcpy((unsigned char *)i + from[k], lists[k].at, from[k + 1] - from[k]);
+    }
+}
+
+#define WHOLE ((SatinjacksTracker *)(void *)whole.at)
+#define LISTS (uint64_t *)(void *)lists[0].at, (float *)(void *)lists[1].at, (uint32_t *)(void *)lists[2].at
 
 /* ---- making a tracker */
 
@@ -195,13 +234,11 @@ static int in_range(const SatinjacksSettings *s)
         && s->delta_t <= 8 && s->use_byte <= 1;
 }
 
-/* An empty tracker with these settings: nothing counted, and the table's 64 cells alike. */
+/* An empty tracker with these settings: nothing counted. */
 static int begins(const SatinjacksTracker *i, const SatinjacksSettings *s)
 {
-    for (size_t k = 1; k < 64; k++)
-        if (memcmp(&i->tracks[k], &i->tracks[0], sizeof i->tracks[0]) != 0)
-            return 0;
-    return i->count == 0 && i->frames == 0 && i->issued == 0 && memcmp(&i->det_thresh, s, sizeof *s) == 0;
+    SatinjacksSettings held = {i->det_thresh, i->iou_threshold, i->inertia, i->max_age, i->min_hits, i->delta_t, i->use_byte};
+    return i->count == 0 && i->frames == 0 && i->issued == 0 && memcmp(&held, s, sizeof held) == 0 && is_clear_past_the_count(i);
 }
 
 /* Settings that a host means, any bytes, or meant ones with a field damaged. */
@@ -217,28 +254,63 @@ static SatinjacksSettings any_settings(void)
     return s;
 }
 
-static void make(Place *p, SatinjacksTracker *run)
+static void make(SatinjacksTracker *image)
 {
     static SatinjacksTracker was;
     for (int done = 0; !done;) {
-        SatinjacksTracker *image = lay(p, sizeof *image);
-        random_bytes(image, sizeof *image);
-        was = *image;
+        random_bytes(&was, sizeof was);
+        lend(&was);
         SatinjacksSettings s = any_settings();
         uint64_t number;
         if (one_in(4)) {
             SatinjacksSettings d = {s.det_thresh, 0.3f, 0.2f, 30, 3, 3, 0};
             s = d;
-            number = satinjacks_new(image, s.det_thresh);
+            number = is_apart ? satinjacks_new_lists(LISTS, s.det_thresh) : satinjacks_new(WHOLE, s.det_thresh);
         } else {
-            number = satinjacks_with_settings(image, s);
+            number = is_apart ? satinjacks_with_settings_lists(LISTS, s) : satinjacks_with_settings(WHOLE, s);
         }
-        CHECK(number == (in_range(&s) ? SATINJACKS_ACCEPTED : SATINJACKS_BAD_SETTING) && guarded(p));
+        take_back(image);
+        CHECK(number == (in_range(&s) ? SATINJACKS_ACCEPTED : SATINJACKS_BAD_SETTING));
         done = number == 0;
         made[number]++;
         CHECK(done ? begins(image, &s) : memcmp(image, &was, sizeof was) == 0);
-        *run = *image;
     }
+}
+
+/* ---- the header's names: an animal seen in three frames, then hidden, and its numbers where their names say */
+
+static int near_to(double a, double b) { return a - b < 1e-3 && b - a < 1e-3; }
+
+static int is_box(const SatinjacksBox *b, float x, float y)
+{
+    return b->x1 == x && b->y1 == y && b->x2 == x + 64 && b->y2 == y + 32 && b->score == 0.75f;
+}
+
+static void names(void)
+{
+    static SatinjacksTracker i;
+    static float boxes[SATINJACKS_BOXES];
+    static uint64_t ids[SATINJACKS_IDS];
+    const SatinjacksTrackFloats *f = i.floats;
+    const SatinjacksTrackWords *w = i.words;
+    CHECK(satinjacks_new(&i, 0.5f) == 0);
+    for (int k = 0; k < 4; k++) {
+        float animal[5] = {3 * (float)k, 4 * (float)k, 64, 32, 0.75f};
+        CHECK(satinjacks_update(&i, animal, k < 3 ? 5 : 0, boxes, SATINJACKS_BOXES, ids, SATINJACKS_IDS).number == 0);
+        CHECK(k == 3 || (w->frozen == 0 && f->saved.x[0] == 0 && f->saved.p[48] == 0 && near_to(f->filter.x[0], 32 + 3 * k)));
+    }
+    CHECK(i.issued == 1 && i.count == 1 && i.id[0] == 0);
+    CHECK(i.det_thresh == 0.5f && i.iou_threshold == 0.3f && i.inertia == 0.2f);
+    CHECK(i.max_age == 30 && i.min_hits == 3 && i.delta_t == 3 && i.use_byte == 0 && i.frames == 4);
+    CHECK(w->frozen == 1 && w->age == 3 && w->streak == 2 && w->since == 1);
+    CHECK(w->has_last == 1 && w->has_list == 1 && w->has_direction == 1);
+    for (int k = 0; k < 8; k++)
+        CHECK(w->has_kept[k] == (k == 1 || k == 2));
+    CHECK(is_box(&f->last, 6, 8) && is_box(&f->kept[1], 6, 8) && is_box(&f->kept[2], 3, 4));
+    CHECK(f->list.x == 38 && f->list.y == 24 && f->list.s == 2048 && f->list.r == 2);
+    CHECK(near_to(f->direction.dy, 0.8) && near_to(f->direction.dx, 0.6));
+    CHECK(near_to(f->filter.x[4], 3) && near_to(f->filter.x[5], 4) && f->filter.p[0] > 0 && f->filter.p[48] > 0);
+    CHECK(memcmp(&f->filter, &f->saved, sizeof f->filter) == 0);
 }
 
 /* ---- the assignment */
@@ -284,9 +356,9 @@ typedef struct {
     float x[64], y[64], vx[64], vy[64];
 } Run;
 
-static void begin(Place *p, Run *r)
+static void begin(Run *r)
 {
-    make(p, &r->image);
+    make(&r->image);
     r->scene = below(6);
     r->animals = one_in(4) ? 1 + below(64) : 1 + below(12);
     for (uint32_t k = 0; k < 64; k++) {
@@ -331,10 +403,10 @@ static size_t objects(Run *r, float *out)
 /* ---- images */
 
 /* Some tag of a track. */
-static uint32_t *tag(SatinjacksTrack *t)
+static uint32_t *tag(SatinjacksTrackWords *t)
 {
     uint32_t k = below(12);
-    return k < 8 ? &t->kept[k].is : k == 8 ? &t->frozen : k == 9 ? &t->last.is : k == 10 ? &t->list.is : &t->direction.is;
+    return k < 8 ? &t->has_kept[k] : k == 8 ? &t->frozen : k == 9 ? &t->has_last : k == 10 ? &t->has_list : &t->has_direction;
 }
 
 /* A tag other than 0 and 1, or one word of the head or of a live track, rather a count, a setting or a tag than a float. */
@@ -342,13 +414,13 @@ static void damage(SatinjacksTracker *i)
 {
     size_t tracks = live(i), k;
     if (tracks > 0 && one_in(4)) {
-        *tag(&i->tracks[below((uint32_t)tracks)]) = one_in(2) ? 2 : (uint32_t)next() | 2;
+        *tag(&i->words[below((uint32_t)tracks)]) = one_in(2) ? 2 : (uint32_t)next() | 2;
         return;
     }
-    int whole = one_in(3), head = tracks == 0 || one_in(3);
+    int any = one_in(3), head = tracks == 0 || one_in(3);
     do
-        k = head ? below(HEAD) : HEAD + below((uint32_t)tracks * CELL);
-    while (!whole && is_float[k]);
+        k = head ? in_head(below(HEAD)) : in_track(below((uint32_t)tracks), below(CELL));
+    while (!any && is_float(k));
     uint32_t w = word(i, k);
     switch (below(6)) {
     case 0: w = below(4); break;
@@ -361,24 +433,33 @@ static void damage(SatinjacksTracker *i)
     set_word(i, k, w);
 }
 
-static void past_the_count(SatinjacksTracker *i) { random_bytes(&i->tracks[live(i)], (64 - live(i)) * sizeof(SatinjacksTrack)); }
+static void past_the_count(SatinjacksTracker *i)
+{
+    for (size_t t = live(i); t < 64; t++)
+        for (size_t k = 0; k < CELL; k++)
+            set_word(i, in_track(t, k), (uint32_t)(next() >> 16));
+}
 
 static void wild_floats(SatinjacksTracker *i)
 {
     uint32_t rare = 1 + below(60);
-    for (size_t k = HEAD; k < HEAD + CELL * live(i); k++)
-        if (is_float[k] && one_in(rare))
-            set_word(i, k, any_float());
+    for (size_t t = 0; t < live(i); t++)
+        for (size_t k = 0; k < CELL; k++)
+            if (is_float(in_track(t, k)) && one_in(rare))
+                set_word(i, in_track(t, k), any_float());
 }
 
 /* Random bytes, or random tracks whose tags mean something under the head of a run. */
 static void random_image(SatinjacksTracker *i)
 {
-    size_t head = one_in(2) ? 0 : HEAD;
-    random_bytes((unsigned char *)i + 4 * head, sizeof *i - 4 * head);
-    for (size_t k = head; head > 0 && k < WORDS; k++)
-        if (!is_float[k] && (k - HEAD) % CELL >= 2)
-            set_word(i, k, word(i, k) & 1);
+    if (one_in(2)) {
+        random_bytes(i, sizeof *i);
+        return;
+    }
+    random_bytes(i->id, sizeof i->id);
+    random_bytes(i->floats, sizeof i->floats);
+    for (size_t k = in_track(0, 165); k < END; k++)
+        set_word(i, k, below(2));
 }
 
 /* ---- a frame by both calls */
@@ -390,11 +471,11 @@ static size_t room(size_t asked, size_t most)
     return one_in(40) ? below((uint32_t)asked) : one_in(40) ? asked - 1 : one_in(2) ? asked : asked + below((uint32_t)(most - asked) + 1);
 }
 
-static Place places[7];
+static Place places[6];
 
 static void frame(Run *run)
 {
-    static SatinjacksTracker before, plain;
+    static SatinjacksTracker before, after, plain;
     static Stepped by;
     static float input0[INPUT_MAX];
     static unsigned char boxes0[4 * BOXES_MAX], ids0[8 * IDS_MAX];
@@ -413,22 +494,21 @@ static void frame(Run *run)
     random_bytes(boxes0, 4 * m);
     random_bytes(ids0, 8 * l);
 
-    SatinjacksTracker *image = lay(&p[0], sizeof *image);
-    *image = run->image;
+    before = run->image;
     uint32_t kind = below(20); /* from 10 on the image is as the run grew it */
     if (kind == 0)
-        random_image(image);
+        random_image(&before);
     else if (kind <= 2)
-        wild_floats(image);
+        wild_floats(&before);
     else if (kind <= 4)
-        past_the_count(image);
+        past_the_count(&before);
     else if (kind <= 9)
         for (uint32_t k = one_in(4) ? 3 : 1; k-- > 0;)
-            damage(image);
+            damage(&before);
     int limit = one_in(40);
     if (limit)
-        image->frames = LIMIT - 1 + (one_in(4) ? 0 : 1) + (one_in(8) ? 1 : 0);
-    before = *image;
+        before.frames = LIMIT - 1 + (one_in(4) ? 0 : 1) + (one_in(8) ? 1 : 0);
+    lend(&before);
 
     /* the plain form may have other bytes where nothing lives */
     plain = before;
@@ -436,8 +516,8 @@ static void frame(Run *run)
     if (other)
         past_the_count(&plain);
 
-    float *input = lay(&p[1], 4 * n), *boxes = lay(&p[2], 4 * m), *input2 = lay(&p[4], 4 * n), *boxes2 = lay(&p[5], 4 * m);
-    uint64_t *ids = lay(&p[3], 8 * l), *ids2 = lay(&p[6], 8 * l);
+    float *input = lay(&p[0], 4 * n), *boxes = lay(&p[1], 4 * m), *input2 = lay(&p[3], 4 * n), *boxes2 = lay(&p[4], 4 * m);
+    uint64_t *ids = lay(&p[2], 8 * l), *ids2 = lay(&p[5], 8 * l);
     memcpy(input, input0, 4 * n);
     memcpy(input2, input0, 4 * n);
     memcpy(boxes, boxes0, 4 * m);
@@ -445,12 +525,14 @@ static void frame(Run *run)
     memcpy(ids, ids0, 8 * l);
     memcpy(ids2, ids0, 8 * l);
 
-    SatinjacksReply r = satinjacks_update(image, input, n, boxes, m, ids, l);
+    SatinjacksReply r = is_apart ? satinjacks_update_lists(LISTS, input, n, boxes, m, ids, l)
+                                 : satinjacks_update(WHOLE, input, n, boxes, m, ids, l);
+    take_back(&after);
     by = satinjacks_update_by_value(plain, input2, n, boxes2, m, ids2, l);
 
     CHECK(r.number == by.reply.number && r.count == by.reply.count);
     CHECK(r.number <= SATINJACKS_FULL_TABLE && r.number != SATINJACKS_BAD_SETTING && r.count <= 64);
-    for (int k = 0; k < 7; k++)
+    for (int k = 0; k < 6; k++)
         CHECK(guarded(&p[k]));
     CHECK(memcmp(input, input0, 4 * n) == 0 && memcmp(input2, input0, 4 * n) == 0);
     CHECK(r.number == 0 || r.count == 0);
@@ -464,16 +546,16 @@ static void frame(Run *run)
 
     counts[r.number]++;
     if (r.number != 0) {
-        CHECK(memcmp(image, &before, sizeof before) == 0);
+        CHECK(memcmp(&after, &before, sizeof before) == 0);
         CHECK(same_image(&by.image, &plain));
         return;
     }
-    CHECK(same_image(image, &by.image));
-    CHECK(image->frames == before.frames + 1);
+    CHECK(same_image(&after, &by.image));
+    CHECK(after.frames == before.frames + 1 && is_clear_past_the_count(&after));
     reporting += r.count > 0;
-    with_nan += holds_nan(image);
+    with_nan += holds_nan(&after);
     if (kind > 9 && !limit)
-        run->image = *image;
+        run->image = after;
 }
 
 static int complete = 1;
@@ -499,22 +581,25 @@ int main(int argc, char **argv)
     state = seed * 2 + 1;
     for (int k = 0; k < 64; k++)
         next();
-    mark_floats();
-    for (int k = 0; k < 7; k++)
+    whole = place();
+    for (int k = 0; k < 3; k++)
+        lists[k] = place();
+    for (int k = 0; k < 6; k++)
         places[k] = place();
+    names();
     static Run runs[RUNS];
     for (int k = 0; k < RUNS; k++)
-        begin(&places[0], &runs[k]);
+        begin(&runs[k]);
     for (call = 1; call <= calls; call++) {
         Run *r = &runs[below(RUNS)];
         if (one_in(150))
-            begin(&places[0], r);
+            begin(r);
         if (one_in(20)) {
             static SatinjacksTracker spare;
-            make(&places[0], &spare);
+            make(&spare);
         }
         if (one_in(20))
-            assignment(&places[1], &places[2], &places[3]);
+            assignment(&places[0], &places[1], &places[2]);
         frame(r);
     }
     tally("frames", counts, "0134567");

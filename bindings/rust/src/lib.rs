@@ -19,7 +19,7 @@
 mod image;
 mod refusal;
 
-pub use image::{BoxImage, DirectionImage, Filter, ListImage, TrackImage, TrackerImage};
+pub use image::{BoxImage, DirectionImage, Filter, ListImage, TrackFloats, TrackWords, TrackerImage};
 pub use refusal::Refusal;
 
 /// Reports that a frame may give, and objects that it may bring.
@@ -78,10 +78,17 @@ struct Reply {
 }
 
 extern "C" {
-    fn satinjacks_new(image: *mut TrackerImage, det_thresh: f32) -> u64;
-    fn satinjacks_with_settings(image: *mut TrackerImage, settings: SettingsImage) -> u64;
-    fn satinjacks_update(
-        image: *mut TrackerImage,
+    fn satinjacks_new_lists(wide: *mut u64, floats: *mut f32, words: *mut u32, det_thresh: f32) -> u64;
+    fn satinjacks_with_settings_lists(
+        wide: *mut u64,
+        floats: *mut f32,
+        words: *mut u32,
+        settings: SettingsImage,
+    ) -> u64;
+    fn satinjacks_update_lists(
+        wide: *mut u64,
+        floats: *mut f32,
+        words: *mut u32,
         input: *const f32,
         input_len: usize,
         boxes: *mut f32,
@@ -110,8 +117,8 @@ pub struct Tracker {
 impl Tracker {
     /// A tracker with the Rust's defaults.
     pub fn new(det_thresh: f32) -> Result<Self, Refusal> {
-        // SAFETY: the image is a whole, exclusive TrackerImage.
-        Self::made(|image| unsafe { satinjacks_new(image, det_thresh) })
+        // SAFETY: the lists are a whole, exclusive image's.
+        Self::made(|wide, floats, words| unsafe { satinjacks_new_lists(wide, floats, words, det_thresh) })
     }
 
     /// A tracker with all seven settings.
@@ -125,13 +132,14 @@ impl Tracker {
             delta_t: settings.delta_t,
             use_byte: settings.use_byte.into(),
         };
-        // SAFETY: the image is a whole, exclusive TrackerImage.
-        Self::made(|image| unsafe { satinjacks_with_settings(image, settings) })
+        // SAFETY: the lists are a whole, exclusive image's.
+        Self::made(|wide, floats, words| unsafe { satinjacks_with_settings_lists(wide, floats, words, settings) })
     }
 
-    fn made(make: impl FnOnce(&mut TrackerImage) -> u64) -> Result<Self, Refusal> {
+    fn made(make: impl FnOnce(*mut u64, *mut f32, *mut u32) -> u64) -> Result<Self, Refusal> {
         let mut image = TrackerImage::zeroed();
-        match Refusal::of(make(&mut image)) {
+        let (wide, floats, words) = image.lists();
+        match Refusal::of(make(wide, floats, words)) {
             None => Ok(Self::from_image(image)),
             Some(refusal) => Err(refusal),
         }
@@ -146,11 +154,14 @@ impl Tracker {
     pub fn update(&mut self, detections: &[Detection]) -> Result<&[Track], Refusal> {
         let mut boxes = [0f32; 4 * ROOM];
         let mut ids = [0u64; ROOM];
+        let (wide, floats, words) = self.image.lists();
         // SAFETY: a Detection is five f32 without padding, so the slice is five times as many; a slice's pointer is
-        // never null; image, boxes and ids are exclusive, and the lengths are theirs.
+        // never null; the image's lists, boxes and ids are exclusive, and the lengths are theirs.
         let reply = unsafe {
-            satinjacks_update(
-                &mut *self.image,
+            satinjacks_update_lists(
+                wide,
+                floats,
+                words,
                 detections.as_ptr().cast(),
                 5 * detections.len(),
                 boxes.as_mut_ptr(),
@@ -175,7 +186,7 @@ impl Tracker {
 
     /// Live tracks, reported or not.
     pub fn count(&self) -> usize {
-        self.image.count
+        self.image.count as usize
     }
 
     pub fn frames(&self) -> u32 {

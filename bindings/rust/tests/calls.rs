@@ -1,5 +1,5 @@
 //! Document 01's cases through the library, and that a refusal writes nothing.
-use satinjacks::{assign, Detection, Refusal, Settings, Track, Tracker, TrackerImage};
+use satinjacks::{assign, BoxImage, Detection, Refusal, Settings, Track, Tracker, TrackerImage};
 
 const DEFAULTS: Settings = Settings {
     det_thresh: 0.5,
@@ -80,6 +80,34 @@ fn refusals_keep_the_state() {
     refuses(&mut Tracker::from_image(over), &[], Refusal::RunOver);
 }
 
+/// An animal seen in three frames, then hidden: its numbers stand where their names say.
+#[test]
+fn the_image_has_its_names() {
+    let mut tracker = Tracker::new(0.5).unwrap();
+    for k in 0..3u8 {
+        let k = f32::from(k);
+        tracker.update(&[at(3.0 * k, 4.0 * k, 64.0, 32.0, 0.75)]).unwrap();
+        let i = tracker.image();
+        assert_eq!((i.words[0].frozen, i.floats[0].saved.x[0], i.floats[0].saved.p[48]), (0, 0.0, 0.0));
+        assert_eq!(i.floats[0].filter.x[0].round(), 32.0 + 3.0 * k);
+    }
+    tracker.update(&[]).unwrap();
+    let i = tracker.image();
+    assert_eq!((i.issued, i.count, i.id[0]), (1, 1, 0));
+    assert_eq!((i.det_thresh, i.iou_threshold, i.inertia), (0.5, 0.3, 0.2));
+    assert_eq!((i.max_age, i.min_hits, i.delta_t, i.use_byte, i.frames), (30, 3, 3, 0, 4));
+    let (f, w) = (i.floats[0], i.words[0]);
+    assert_eq!((w.frozen, w.age, w.streak, w.since), (1, 3, 2, 1));
+    assert_eq!((w.has_last, w.has_list, w.has_direction, w.has_kept), (1, 1, 1, [0, 1, 1, 0, 0, 0, 0, 0]));
+    let five = |b: BoxImage| [b.x1, b.y1, b.x2, b.y2, b.score];
+    assert_eq!([f.last, f.kept[1]].map(five), [[6.0, 8.0, 70.0, 40.0, 0.75]; 2]);
+    assert_eq!(five(f.kept[2]), [3.0, 4.0, 67.0, 36.0, 0.75]);
+    assert_eq!([f.list.x, f.list.y, f.list.s, f.list.r], [38.0, 24.0, 2048.0, 2.0]);
+    assert_eq!([f.direction.dy, f.direction.dx].map(|d| (10.0 * d).round()), [8.0, 6.0]);
+    assert_eq!([f.filter.x[4], f.filter.x[5]].map(f32::round), [3.0, 4.0]);
+    assert_eq!((f.filter.x, f.filter.p), (f.saved.x, f.saved.p));
+}
+
 #[test]
 fn unsound_states() {
     let mut tracker = Tracker::new(0.5).unwrap();
@@ -90,14 +118,17 @@ fn unsound_states() {
         refuses(&mut Tracker::from_image(image), &[], Refusal::UnsoundState);
     };
     spoilt(|i| i.use_byte = 2);
-    spoilt(|i| i.tracks[0].last.is = 7);
-    spoilt(|i| i.count = usize::MAX);
-    spoilt(|i| i.tracks[0].id = 1);
+    spoilt(|i| i.words[0].has_last = 7);
+    spoilt(|i| i.words[0].has_kept[7] = 2);
+    spoilt(|i| i.count = u64::MAX);
+    spoilt(|i| i.id[0] = 1);
     spoilt(|i| i.delta_t = 9);
-    // cells past the count mean nothing
+    // cells past the count mean nothing, and an accepted frame leaves zeros there
     let mut image = Box::new(*tracker.image());
-    image.tracks[1].last.is = 7;
-    assert!(Tracker::from_image(image).update(&[]).is_ok());
+    image.words[1].has_last = 7;
+    let mut spoilt_past = Tracker::from_image(image);
+    assert!(spoilt_past.update(&[]).is_ok());
+    assert_eq!(spoilt_past.image().words[1].has_last, 0);
 }
 
 #[test]

@@ -1,24 +1,12 @@
-// The exported frame call in its plain form: the whole image is converted there and back. tests/boundary holds `satinjacks_update` against it.
-use frame::Outcome;
+// The exported frame call in its plain form: the whole image is converted there and back. tests/boundary holds `satinjacks_update_lists` against it.
 use host::Reply;
 use image::TrackerImage;
-ghost use mathlib.Core.Path.{_≡_};
-ghost use Rattle.host.specs.Host.{toldOf, Hosted};
+ghost use Rattle.host.specs.Host.{Hosted};
 
 #[repr(C)]
 pub struct Stepped {
     pub image: TrackerImage,
     pub reply: Reply,
-}
-
-// Written anew rather than shared with `host`.
-fn told(outcome: Outcome) -> u64
-    ensures { λ r. ⌜ r ≡ toldOf outcome ⌝ }
-{
-    match outcome {
-        Outcome::Accepted => 0,
-        Outcome::Refused(refusal) => object::number(refusal) as u64,
-    }
 }
 
 // One frame, by value: a refusal returns the image as it came. No refusal has number 0.
@@ -43,7 +31,7 @@ pub extern "C" fn satinjacks_update_by_value(
     let t = image::thaw(i);
     let answer = oc_sort_tracker::update(t, input, boxes, ids);
     let outcome = answer.outcome;
-    let number = told(outcome);
+    let number = making::told(outcome);
     if number != 0 {
         return Stepped {
             image: i,

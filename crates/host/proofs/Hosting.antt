@@ -1,13 +1,11 @@
 -- The frame on an image, by how it came out: it means nothing, the frame is refused, or it is accepted. Assumes nothing.
 use mathlib.Core.Path.{_≡_, refl, sym, ap, subst, _∙_}
-use mathlib.Core.Bool.{Bool, true, false, not}
+use mathlib.Core.Bool.{Bool, true, false}
 use mathlib.Core.List.{List}
 use Prim.Native.Nat.{ℕ}
 use native.Mathlib.Omega.{arith}
-use lib.Dec.{T as Holds, eqb}
 use lib.Ieee.{Float}
 use lib.ListN.{length}
-use Rattle.lists.specs.Lists.{pick}
 use Rattle.object.specs.Refusal.{numberOf}
 use Rattle.object.specs.declared.Refusal.{Refusal}
 use Rattle.object.specs.declared.Refusal.the-variants.{UnsoundState, BadSetting, RaggedFrame, CrowdedFrame, ShortAnswer, RunOver, FullTable, BadMatrix}
@@ -18,9 +16,9 @@ use Rattle.frame.specs.Frame.{Call, Out, refused, reports, frameOf, boxesAfter,
 use Rattle.frame.specs.Contract.{outcomeOf, reportsIn, callOf, Framed}
 use Rattle.image.specs.declared.TrackerImage.{TrackerImage}
 use Rattle.image.specs.Image.{freezeTracker, thawTracker, meant}
+use Rattle.making.specs.Making.{toldOf}
 use Rattle.host.specs.declared.Reply.{Reply}
-use Rattle.host.specs.declared.Stepped.{Stepped}
-use Rattle.host.specs.Host.{toldOf, imageAfter, frameBy, frameOn, replyOf, Hosted}
+use Rattle.host.specs.Host.{imageAfter, frameBy, frameOn, replyOf, Hosted}
 
 -- no refusal has number 0
 pub nonzero : (r : Refusal) → numberOf r ≡ 0 → ⊥
@@ -93,37 +91,3 @@ module _ (i : TrackerImage) (input boxes : List Float) (ids : List ℕ) where
         (rw (number, f .count))
         (f .boxes-after)
         (f .ids-after)
-
--- ---- in place
-
--- what stands in the image, by how the test came out
-pub taken : {A : Type 0} (x y : A) (b : Bool) → Holds b → x ≡ pick b x y
-taken x y true t = refl
-taken x y false t = absurd t
-
-pub left : {A : Type 0} (x y : A) (b : Bool) → Holds (not b) → y ≡ pick b x y
-left x y true t = absurd t
-left x y false t = refl
-
--- storing the image where the number is 0 is storing it always
-still : (i : TrackerImage) (r : frame.Reply) (next : Tracker) → pick (eqb (toldOf (outcomeOf r)) 0) (imageAfter i r next) i ≡ imageAfter i r next
-still i (refused r) next = go (eqb (numberOf r) 0)
-  where
-    go : (b : Bool) → pick b i i ≡ i
-    go true = refl
-    go false = refl
-still i (reports rs) next = refl
-
-still-by : (i : TrackerImage) (c : Call) (b : Bool) → pick (eqb (replyOf (frameBy i c b .reply) .number) 0) (frameBy i c b .next) i ≡ frameBy i c b .next
-still-by i c true = still i (frameOf (thawTracker i) c .reply) (frameOf (thawTracker i) c .next)
-still-by i c false = refl
-
-pub in-place : (i : TrackerImage) (input boxes : List Float) (ids : List ℕ) (s : Stepped) (boxes′ : List Float) (ids′ : List ℕ) (image′ : TrackerImage)
-    → Hosted i input boxes ids (s .image) (s .reply) boxes′ ids′ → image′ ≡ pick (eqb (s .reply .number) 0) (s .image) i → Hosted i input boxes ids image′ (s .reply) boxes′ ids′
-unfolding frameOn
-in-place i input boxes ids s boxes′ ids′ image′ h p = record {
-  next = p ∙ (rw (h .next, h .reply) (still-by i (callOf input boxes ids) (meant i)));
-  reply = h .reply;
-  boxes-after = h .boxes-after;
-  ids-after = h .ids-after;
-}

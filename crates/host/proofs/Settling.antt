@@ -1,4 +1,4 @@
--- The loops of the frame by value once its pairs are known: boxes and misses, births, reports, blank cells. Assumes nothing.
+-- The loops of the frame call once its pairs are known: boxes and misses, births, reports, and the tracks written back. Assumes nothing.
 use mathlib.Core.Path.{_≡_, refl, sym, ap, ap₂, subst, subst₂, _∙_}
 use mathlib.Core.Bool.{Bool, true, false, _&&_}
 use mathlib.Core.Option.{none}
@@ -9,7 +9,7 @@ use lib.Dec.{leb, ltb}
 use lib.Ieee.{Float}
 use lib.ListN.{length, take, drop, getD, set, replicate, length-append, length-map, length-replicate, List·getD-append}
 use lib.Seq.{take-length}
-use Rattle.lists.specs.Lists.{pick, keep, every, tab}
+use Rattle.lists.specs.Lists.{pick, keep, every, All}
 use Rattle.lists.proofs.Tab.{length-tab}
 use Rattle.lists.proofs.Keep.{keep-short}
 use Rattle.object.specs.declared.Detection.{Detection}
@@ -18,7 +18,7 @@ use Rattle.strack.specs.declared.Kept.{Kept}
 use Rattle.frame.specs.declared.Settings.{Settings}
 use Rattle.frame.specs.declared.Tracked.{Tracked}
 use Rattle.frame.specs.declared.Tracker.{Tracker}
-use Rattle.frame.specs.State.{blank}
+use Rattle.frame.specs.State.{blank, stateOf}
 use Rattle.frame.specs.Objects.{Obj, objectsOf}
 use Rattle.frame.specs.Rounds.{View, Work, rounds, keptOf, grantOf}
 use Rattle.frame.specs.Frame.{Report, trackedView, isYoung, isReported, reportOf, reportsOf}
@@ -38,9 +38,9 @@ use Rattle.reports.specs.Written.{lowId, rectAt, Written}
 use Rattle.reports.proofs.Writing as writing
 use Rattle.oc_sort_tracker.specs.Answered.{Ready}
 use Rattle.oc_sort_tracker.proofs.Ready.{low-joined}
-use Rattle.image.specs.declared.TrackImage.{TrackImage}
 use Rattle.image.specs.declared.TrackerImage.{TrackerImage}
-use Rattle.image.specs.Image.{thawTrack, freezeTrack, thawTracker}
+use Rattle.image.specs.Image.{tagged, imageOf, byteIn, thawTracker, freezeTracker, Put, Cleared}
+use Rattle.image.proofs.Filling.{Full, filledTo, filled-none, filled-turn, filled-clear, frozen}
 use Rattle.host.proofs.Turns.{Holds, holds-at, Keeping, keeping-none, still, keeping-taken, keeping-left, young, few-young, young-taken, young-left, born-more}
 use Rattle.host.proofs.Stepping.{every-keep, is-ready, fs, left-young}
 use Rattle.host.proofs.Stages.{settingsIn, aheadIn, Open, is-clear}
@@ -103,17 +103,17 @@ module _ (i : TrackerImage) (s : Settings) (input boxes : List Float) (ids : Lis
 
 -- ---- boxes and misses
 
-pub record Giving (i : TrackerImage) (s : Settings) (input boxes : List Float) (ids : List ℕ) (ks : List Kept) (births : ℕ) (cells : List Float) (ahead : ℕ) (w₀ w : List TrackImage) (n g : ℕ) : Type 0 where
+pub record Giving (i : TrackerImage) (s : Settings) (input boxes : List Float) (ids : List ℕ) (ks : List Kept) (births : ℕ) (cells : List Float) (ahead : ℕ) (w₀ w : List Tracked) (n g : ℕ) : Type 0 where
   pub paired : Paired i s input boxes ids (pairingOf ks births cells)
   pub holds : Holds (aheadIn i) ahead w₀
   pub reached : g ≤ ahead
   pub keeping : Keeping (young (settingsIn i) (aheadIn i) ks g) w₀ g n w
 
-module _ (i : TrackerImage) (s : Settings) (input boxes : List Float) (ids : List ℕ) (ks : List Kept) (births : ℕ) (cells : List Float) (ahead : ℕ) (w₀ : List TrackImage) where
+module _ (i : TrackerImage) (s : Settings) (input boxes : List Float) (ids : List ℕ) (ks : List Kept) (births : ℕ) (cells : List Float) (ahead : ℕ) (w₀ : List Tracked) where
   pub giving-first : Paired i s input boxes ids (pairingOf ks births cells) → Holds (aheadIn i) ahead w₀ → Giving i s input boxes ids ks births cells ahead w₀ w₀ 0 0
   giving-first p h = record { paired = p; holds = h; reached = omega arith; keeping = keeping-none w₀ (h .long) }
 
-  module _ (w : List TrackImage) (n g : ℕ) (h : Giving i s input boxes ids ks births cells ahead w₀ w n g) where
+  module _ (w : List Tracked) (n g : ℕ) (h : Giving i s input boxes ids ks births cells ahead w₀ w n g) where
     pub giving-few : n ≤ g
     giving-few = h .keeping .few
 
@@ -123,18 +123,18 @@ module _ (i : TrackerImage) (s : Settings) (input boxes : List Float) (ids : Lis
     pub giving-long : length w ≡ 64
     giving-long = h .keeping .holds .long
 
-    module _ (d : TrackImage) (below : g < ahead) where
-      at : thawTrack (getD w g d) ≡ getD (aheadIn i) g (thawTrack d)
-      at = ap thawTrack (still (young (settingsIn i) (aheadIn i) ks g) w₀ g n w (h .keeping) d) ∙ holds-at (aheadIn i) ahead w₀ g d (thawTrack d) (h .holds) below
+    module _ (d : Tracked) (below : g < ahead) where
+      at : getD w g d ≡ getD (aheadIn i) g d
+      at = still (young (settingsIn i) (aheadIn i) ks g) w₀ g n w (h .keeping) d ∙ holds-at (aheadIn i) ahead w₀ g d (h .holds) below
 
       there : g < length (aheadIn i)
       there = omega (arith, h .holds .count, below)
 
-      pub can-give : (settingsIn i .«delta_t» ≤ 8) × (givable (thawTrack (getD w g d)) ≡ true)
-      can-give = (settles i s input boxes ids (pairingOf ks births cells) (h .paired) .delta-t, ap givable at ∙ every-at givable (aheadIn i) g (thawTrack d) (givables i s input boxes ids (pairingOf ks births cells) (h .paired)) there)
+      pub can-give : (settingsIn i .«delta_t» ≤ 8) × (givable (getD w g d) ≡ true)
+      can-give = (settles i s input boxes ids (pairingOf ks births cells) (h .paired) .delta-t, ap givable at ∙ every-at givable (aheadIn i) g d (givables i s input boxes ids (pairingOf ks births cells) (h .paired)) there)
 
-      module _ (k : Kept) (e : Tracked) (is : e ≡ givenOne (settingsIn i .«delta_t») (getD ks g k) (thawTrack (getD w g d))) where
-        is₀ : e ≡ givenOne (settingsIn i .«delta_t») (getD ks g k) (getD (aheadIn i) g (thawTrack d))
+      module _ (k : Kept) (e : Tracked) (is : e ≡ givenOne (settingsIn i .«delta_t») (getD ks g k) (getD w g d)) where
+        is₀ : e ≡ givenOne (settingsIn i .«delta_t») (getD ks g k) (getD (aheadIn i) g d)
         is₀ = is ∙ ap (givenOne (settingsIn i .«delta_t») (getD ks g k)) at
 
         granted : g < length ks
@@ -143,20 +143,20 @@ module _ (i : TrackerImage) (s : Settings) (input boxes : List Float) (ids : Lis
         youth : (b : Bool) → isYoung s e ≡ b → isYoung (settingsIn i) e ≡ b
         youth b t = ap (λ (x : Settings). isYoung x e) (sym (h .paired .on .same)) ∙ t
 
-        pub giving-taken : (x : TrackImage) (w′ : List TrackImage) (m : ℕ) → isYoung s e ≡ true → x ≡ freezeTrack e → w′ ≡ set w n x → m ≡ n + 1 → Giving i s input boxes ids ks births cells ahead w₀ w′ m (g + 1)
-        giving-taken x w′ m t q u v = subst₂ (λ (a : List TrackImage) (b : ℕ). Giving i s input boxes ids ks births cells ahead w₀ a b (g + 1)) (sym u) (sym v) (record {
+        pub giving-taken : (w′ : List Tracked) (m : ℕ) → isYoung s e ≡ true → w′ ≡ set w n e → m ≡ n + 1 → Giving i s input boxes ids ks births cells ahead w₀ w′ m (g + 1)
+        giving-taken w′ m t u v = subst₂ (λ (a : List Tracked) (b : ℕ). Giving i s input boxes ids ks births cells ahead w₀ a b (g + 1)) (sym u) (sym v) (record {
           paired = h .paired;
           holds = h .holds;
           reached = omega (arith, below);
-          keeping = keeping-taken (young (settingsIn i) (aheadIn i) ks g) w₀ g n w (h .keeping) (young (settingsIn i) (aheadIn i) ks (g + 1)) e x (young-taken (settingsIn i) (aheadIn i) ks g (thawTrack d) k e there granted is₀ (youth true t)) (omega (arith, below, giving-ahead)) q;
+          keeping = keeping-taken (young (settingsIn i) (aheadIn i) ks g) w₀ g n w (h .keeping) (young (settingsIn i) (aheadIn i) ks (g + 1)) e (young-taken (settingsIn i) (aheadIn i) ks g d k e there granted is₀ (youth true t)) (omega (arith, below, giving-ahead));
         })
 
-        pub giving-left : (w′ : List TrackImage) (m : ℕ) → isYoung s e ≡ false → w′ ≡ w → m ≡ n → Giving i s input boxes ids ks births cells ahead w₀ w′ m (g + 1)
-        giving-left w′ m t u v = subst₂ (λ (a : List TrackImage) (b : ℕ). Giving i s input boxes ids ks births cells ahead w₀ a b (g + 1)) (sym u) (sym v) (record {
+        pub giving-left : (w′ : List Tracked) (m : ℕ) → isYoung s e ≡ false → w′ ≡ w → m ≡ n → Giving i s input boxes ids ks births cells ahead w₀ w′ m (g + 1)
+        giving-left w′ m t u v = subst₂ (λ (a : List Tracked) (b : ℕ). Giving i s input boxes ids ks births cells ahead w₀ a b (g + 1)) (sym u) (sym v) (record {
           paired = h .paired;
           holds = h .holds;
           reached = omega (arith, below);
-          keeping = keeping-left (young (settingsIn i) (aheadIn i) ks g) w₀ g n w (h .keeping) (young (settingsIn i) (aheadIn i) ks (g + 1)) (young-left (settingsIn i) (aheadIn i) ks g (thawTrack d) k e there granted is₀ (youth false t));
+          keeping = keeping-left (young (settingsIn i) (aheadIn i) ks g) w₀ g n w (h .keeping) (young (settingsIn i) (aheadIn i) ks (g + 1)) (young-left (settingsIn i) (aheadIn i) ks g d k e there granted is₀ (youth false t));
         })
 
     pub giving-done : ahead ≤ g → Holds (youngIn i (pairingOf ks births cells)) n w
@@ -166,7 +166,7 @@ module _ (i : TrackerImage) (s : Settings) (input boxes : List Float) (ids : Lis
 
 -- ---- births
 
-pub record Bearing (i : TrackerImage) (s : Settings) (input boxes : List Float) (ids : List ℕ) (births : ℕ) (cells : List Float) (n : ℕ) (w : List TrackImage) (b : ℕ) : Type 0 where
+pub record Bearing (i : TrackerImage) (s : Settings) (input boxes : List Float) (ids : List ℕ) (births : ℕ) (cells : List Float) (n : ℕ) (w : List Tracked) (b : ℕ) : Type 0 where
   pub grants : List Kept
   pub paired : Paired i s input boxes ids (pairingOf grants births cells)
   pub count : n ≡ length (youngIn i (pairingOf grants births cells))
@@ -174,7 +174,7 @@ pub record Bearing (i : TrackerImage) (s : Settings) (input boxes : List Float) 
   pub holds : Holds (table.joined (youngIn i (pairingOf grants births cells)) (thawTracker i .issued) (detAt cells) b) (n + b) w
 
 module _ (i : TrackerImage) (s : Settings) (input boxes : List Float) (ids : List ℕ) (births : ℕ) (cells : List Float) (n : ℕ) where
-  pub bearing-first : (ks : List Kept) (w : List TrackImage) → Paired i s input boxes ids (pairingOf ks births cells) → Holds (youngIn i (pairingOf ks births cells)) n w → Bearing i s input boxes ids births cells n w 0
+  pub bearing-first : (ks : List Kept) (w : List Tracked) → Paired i s input boxes ids (pairingOf ks births cells) → Holds (youngIn i (pairingOf ks births cells)) n w → Bearing i s input boxes ids births cells n w 0
   bearing-first ks w p h =
       let y : List Tracked = youngIn i (pairingOf ks births cells) in
       let z : n ≡ n + 0 = omega arith in
@@ -186,7 +186,7 @@ module _ (i : TrackerImage) (s : Settings) (input boxes : List Float) (ids : Lis
         holds = subst (λ (k : ℕ). Holds (table.joined y (thawTracker i .issued) (detAt cells) 0) k w) z (subst (λ (l : List Tracked). Holds l n w) (sym (append-nil y)) h);
       }
 
-  module _ (w : List TrackImage) (b : ℕ) (h : Bearing i s input boxes ids births cells n w b) where
+  module _ (w : List Tracked) (b : ℕ) (h : Bearing i s input boxes ids births cells n w b) where
     abbrev p : Pairing
     p = pairingOf (h .grants) births cells
 
@@ -202,7 +202,7 @@ module _ (i : TrackerImage) (s : Settings) (input boxes : List Float) (ids : Lis
     pub bearing-long : length cells ≡ 320
     bearing-long = cells-long i s input boxes ids p (h .paired)
 
-    pub bearing-turn : (d : Detection) (x : TrackImage) → b < births → d ≡ detAt cells b → x ≡ freezeTrack (newborn (thawTracker i .issued + b) d) → Bearing i s input boxes ids births cells n (set w (n + b) x) (b + 1)
+    pub bearing-turn : (d : Detection) (x : Tracked) → b < births → d ≡ detAt cells b → x ≡ newborn (thawTracker i .issued + b) d → Bearing i s input boxes ids births cells n (set w (n + b) x) (b + 1)
     bearing-turn d x below is q = record {
       grants = h .grants;
       paired = h .paired;
@@ -221,7 +221,7 @@ module _ (i : TrackerImage) (s : Settings) (input boxes : List Float) (ids : Lis
 abbrev told : TrackerImage → Pairing → ℕ → List Tracked
 told i p r = drop r (tracksIn (tracksOf (leftIn i p)))
 
-pub record Telling (i : TrackerImage) (s : Settings) (input boxes₀ : List Float) (ids₀ : List ℕ) (births live : ℕ) (w : List TrackImage) (boxes : List Float) (ids : List ℕ) (n r : ℕ) : Type 0 where
+pub record Telling (i : TrackerImage) (s : Settings) (input boxes₀ : List Float) (ids₀ : List ℕ) (births live : ℕ) (w : List Tracked) (boxes : List Float) (ids : List ℕ) (n r : ℕ) : Type 0 where
   pub pairing : Pairing
   pub paired : Paired i s input boxes₀ ids₀ pairing
   pub born : births ≡ pairing .left .n
@@ -230,7 +230,7 @@ pub record Telling (i : TrackerImage) (s : Settings) (input boxes₀ : List Floa
   pub few : n + r ≤ live
   pub written : Written (reportsOf (settingsIn i) (thawTracker i .frames + 1) (told i pairing r)) n boxes₀ ids₀ boxes ids
 
-module _ (i : TrackerImage) (s : Settings) (input boxes₀ : List Float) (ids₀ : List ℕ) (births live : ℕ) (w : List TrackImage) where
+module _ (i : TrackerImage) (s : Settings) (input boxes₀ : List Float) (ids₀ : List ℕ) (births live : ℕ) (w : List Tracked) where
   pub telling-first : (p : Pairing) → Paired i s input boxes₀ ids₀ p → births ≡ p .left .n → Holds (leftIn i p) live w → Telling i s input boxes₀ ids₀ births live w boxes₀ ids₀ 0 live
   telling-first p h e g =
       let t : Tracks = tracksOf (leftIn i p) in
@@ -268,24 +268,27 @@ module _ (i : TrackerImage) (s : Settings) (input boxes₀ : List Float) (ids₀
     pub telling-ids : length ids ≡ length ids₀
     telling-ids = writing.ids-long boxes₀ ids₀ (rs (told i q r)) n boxes ids (h .written) (omega (arith, h .few, telling-live, wide .1))
 
-    module _ (d : TrackImage) (more : 0 < r) where
-      held : thawTrack (getD w (r - 1) d) ≡ getD (leftIn i q) (r - 1) (thawTrack d)
-      held = holds-at (leftIn i q) live w (r - 1) d (thawTrack d) (h .holds) (omega (arith, more, h .reached))
+    module _ (d : Tracked) (more : 0 < r) where
+      abbrev e : Tracked
+      e = getD w (r - 1) d
+
+      held : e ≡ getD (leftIn i q) (r - 1) d
+      held = holds-at (leftIn i q) live w (r - 1) d (h .holds) (omega (arith, more, h .reached))
 
       inside : r - 1 < length (leftIn i q)
       inside = omega (arith, more, h .reached, h .holds .count)
 
       -- the same in the table that the reports' laws speak of
-      cell : thawTrack (getD w (r - 1) d) ≡ getD (ts .table) (r - 1) (thawTrack d)
+      cell : e ≡ getD (ts .table) (r - 1) d
       unfolding tracksOf
-      cell = held ∙ sym (List·getD-append (leftIn i q) (replicate (64 - length (leftIn i q)) blank) (thawTrack d) (r - 1) inside)
+      cell = held ∙ sym (List·getD-append (leftIn i q) (replicate (64 - length (leftIn i q)) blank) d (r - 1) inside)
 
-      pub can-tell : (4 * n + 4 ≤ length boxes) × ((n < length ids) × (lowId (thawTrack (getD w (r - 1) d)) ≡ true))
+      pub can-tell : (4 * n + 4 ≤ length boxes) × ((n < length ids) × (lowId e ≡ true))
       can-tell = (
         omega (arith, telling-boxes, h .few, more, telling-live, wide .0),
         (
           omega (arith, telling-ids, h .few, more, telling-live, wide .1),
-          ap lowId held ∙ every-at lowId (leftIn i q) (r - 1) (thawTrack d) (low-left i s input boxes₀ ids₀ q (h .paired)) inside,
+          ap lowId held ∙ every-at lowId (leftIn i q) (r - 1) d (low-left i s input boxes₀ ids₀ q (h .paired)) inside,
         ),
       )
 
@@ -293,20 +296,16 @@ module _ (i : TrackerImage) (s : Settings) (input boxes₀ : List Float) (ids₀
       unfolding tracksOf
       full = omega (arith, length-append (leftIn i q) (replicate (64 - length (leftIn i q)) blank), length-replicate (64 - length (leftIn i q)) blank, h .holds .count, telling-live)
 
-      pub telling-turn : (n′ : ℕ) (boxes′ : List Float) (ids′ : List ℕ)
-          → (n′ ≡ pick (isReported s (thawTracker i .frames + 1) (thawTrack (getD w (r - 1) d) .track)) (n + 1) n)
-          × ((boxes′ ≡ pick (isReported s (thawTracker i .frames + 1) (thawTrack (getD w (r - 1) d) .track)) (rectAt n (reportOf (thawTrack (getD w (r - 1) d)) .rect) boxes) boxes)
-          × (ids′ ≡ pick (isReported s (thawTracker i .frames + 1) (thawTrack (getD w (r - 1) d) .track)) (set ids n (reportOf (thawTrack (getD w (r - 1) d)) .id)) ids))
-          → Telling i s input boxes₀ ids₀ births live w boxes′ ids′ n′ (r - 1)
-      telling-turn n′ boxes′ ids′ wrote =
+      pub telling-turn : (b : Bool) (n′ : ℕ) (boxes′ : List Float) (ids′ : List ℕ) → b ≡ isReported s (thawTracker i .frames + 1) (e .track)
+          → (n′ ≡ pick b (n + 1) n) × ((boxes′ ≡ pick b (rectAt n (reportOf e .rect) boxes) boxes) × (ids′ ≡ pick b (set ids n (reportOf e .id)) ids)) → Telling i s input boxes₀ ids₀ births live w boxes′ ids′ n′ (r - 1)
+      telling-turn b n′ boxes′ ids′ is wrote =
           let f : ℕ = thawTracker i .frames + 1 in
-          let b : isReported s f (thawTrack (getD w (r - 1) d) .track) ≡ isReported (settingsIn i) f (getD (ts .table) (r - 1) (thawTrack d) .track)
-          = ap₂ (λ (x : Settings) (e : Tracked). isReported x f (e .track)) (h .paired .on .same) cell in
+          let a : b ≡ isReported (settingsIn i) f (getD (ts .table) (r - 1) d .track) = is ∙ ap₂ (λ (x : Settings) (y : Tracked). isReported x f (y .track)) (h .paired .on .same) cell in
           let c : ts .count ≡ live = tracks-count (leftIn i q) ∙ sym (h .holds .count) in
           let v : Written (rs (told i q (r - 1))) n′ boxes₀ ids₀ boxes′ ids′
-          = writing.turn (settingsIn i) f ts boxes₀ ids₀ r (thawTrack d) (isReported s f (thawTrack (getD w (r - 1) d) .track)) n n′ boxes boxes′ ids ids′ more (omega (arith, h .reached, c)) (omega (arith, c, telling-live)) full (wide .0) (wide .1) (h .written) b (wrote .0)
-          (wrote .1 .0 ∙ ap (λ (e : Tracked). pick (isReported s f (thawTrack (getD w (r - 1) d) .track)) (rectAt n (reportOf e .rect) boxes) boxes) cell)
-          (wrote .1 .1 ∙ ap (λ (e : Tracked). pick (isReported s f (thawTrack (getD w (r - 1) d) .track)) (set ids n (reportOf e .id)) ids) cell) in
+          = writing.turn (settingsIn i) f ts boxes₀ ids₀ r d b n n′ boxes boxes′ ids ids′ more (omega (arith, h .reached, c)) (omega (arith, c, telling-live)) full (wide .0) (wide .1) (h .written) a (wrote .0)
+          (wrote .1 .0 ∙ ap (λ (y : Tracked). pick b (rectAt n (reportOf y .rect) boxes) boxes) cell)
+          (wrote .1 .1 ∙ ap (λ (y : Tracked). pick b (set ids n (reportOf y .id)) ids) cell) in
           let m : n′ + (r - 1) ≤ ts .count = writing.few-told (settingsIn i) f ts boxes₀ ids₀ (r - 1) n′ boxes′ ids′ v (omega (arith, h .reached, c)) in
           record {
             pairing = q;
@@ -320,3 +319,33 @@ module _ (i : TrackerImage) (s : Settings) (input boxes₀ : List Float) (ids₀
 
     pub telling-done : r ≡ 0 → Written (rs (leftIn i q)) n boxes₀ ids₀ boxes ids
     telling-done e = subst (λ (l : List Tracked). Written (rs l) n boxes₀ ids₀ boxes ids) (ap (told i q) e ∙ tracks-in (leftIn i q)) (h .written)
+
+-- ---- the tracks written back
+
+-- i′ is i with the table's first m tracks in it
+pub record Storing (i : TrackerImage) (w : List Tracked) (live : ℕ) (i′ : TrackerImage) (m : ℕ) : Type 0 where
+  pub reached : m ≤ live
+  pub stored : i′ ≡ filledTo i (take m w)
+  pub full : All Full (take m w)
+
+pub storing-first : (i : TrackerImage) (w : List Tracked) (live : ℕ) → Storing i w live i 0
+storing-first i w live = record { reached = omega arith; stored = sym (filled-none i); full = tt }
+
+pub storing-turn : (i : TrackerImage) (w : List Tracked) (live : ℕ) (i₁ : TrackerImage) (m : ℕ) → Storing i w live i₁ m → (d : Tracked) (i₂ : TrackerImage) → m < live → live ≤ length w → Put m (getD w m d) i₁ i₂ → Storing i w live i₂ (m + 1)
+storing-turn i w live i₁ m h d i₂ below short p =
+    let t = filled-turn i i₁ i₂ w d m (omega (arith, below, short)) (h .full) (h .stored) p in
+    record { reached = omega (arith, below); stored = t .1; full = t .0 }
+
+-- all of them, and zeros past them: the image of the state that the frame leaves
+pub storing-done : (i : TrackerImage) (es w : List Tracked) (live : ℕ) (i₁ : TrackerImage) (m : ℕ) → Storing i w live i₁ m → live ≤ m → Holds es live w → live ≤ 64 → (i₂ : TrackerImage) → Cleared live i₁ i₂
+    → length (i .wide) ≡ 66 → length (i .floats) ≡ 10435 → length (i .words) ≡ 965 → tagged (byteIn i) ≡ true → (issued frames : ℕ)
+    → imageOf (set (set (i₂ .wide) 0 issued) 1 live) (i₂ .floats) (set (i₂ .words) 4 frames) ≡ freezeTracker (stateOf (settingsIn i) frames issued es)
+storing-done i es w live i₁ m h l holds short i₂ c lw lf ln t issued frames =
+    let z : m ≡ live = omega (arith, l, h .reached) in
+    let e : take m w ≡ es = ap (λ (k : ℕ). take k w) z ∙ holds .held in
+    let f : All Full es = subst (All Full) e (h .full) in
+    let n : length es ≡ live = sym (holds .count) in
+    let x : i₂ ≡ filledTo i (es ++ replicate (64 - live) blank) = filled-clear i i₁ i₂ es live (h .stored ∙ ap (filledTo i) e) f n short c in
+    let y : i₂ ≡ filledTo i (es ++ replicate (64 - length es) blank) = x ∙ ap (λ (k : ℕ). filledTo i (es ++ replicate (64 - k) blank)) (sym n) in
+    ap₂ (λ (j : TrackerImage) (k : ℕ). imageOf (set (set (j .wide) 0 issued) 1 k) (j .floats) (set (j .words) 4 frames)) y (sym n)
+    ∙ frozen i es issued frames lw lf ln (omega (arith, n, short)) f t

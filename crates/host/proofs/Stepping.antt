@@ -1,14 +1,14 @@
--- The answer of the frame by value, from what its tests and loops leave. Assumes nothing.
+-- The answer of the frame call, from what its tests and loops leave. Assumes nothing.
 use mathlib.Core.Path.{_≡_, refl, sym, ap, ap₂, subst, _∙_}
 use mathlib.Core.Bool.{Bool, true, false, _&&_}
 use mathlib.Core.Option.{Option, none, some}
 use mathlib.Core.List.{List, [], _∷_, _++_, map}
-use Prim.Native.Nat.{ℕ, zero, suc, _+_, _-_, _*_, _≤_, _<_}
+use Prim.Native.Nat.{ℕ, zero, suc, _+_, _≤_, _<_}
 use native.Mathlib.Omega.{arith}
 use borrow.Author.Tests.{leb-false, le-leb, ne-eqb}
 use lib.Dec.{leb, eqb}
 use lib.Ieee.{Float}
-use lib.ListN.{length, replicate}
+use lib.ListN.{length}
 use Rattle.lists.specs.Lists.{put, keep, every}
 use Rattle.lists.proofs.Keep.{keep-append}
 use Rattle.lapjv_walk.proofs.Cases.{and-left, and-right}
@@ -22,7 +22,7 @@ use Rattle.frame.specs.declared.Tracked.{Tracked}
 use Rattle.frame.specs.declared.Tracker.{Tracker}
 use Rattle.frame.specs.declared.Answer.{Answer}
 use Rattle.frame.specs.declared.Outcome.the-variants.{Accepted, Refused}
-use Rattle.frame.specs.State.{blank, live, stateOf, stateRules}
+use Rattle.frame.specs.State.{live, stateOf, stateRules}
 use Rattle.frame.specs.Objects.{objectsOf}
 use Rattle.frame.specs.Rounds.{rounds}
 use Rattle.frame.specs.Frame.{Call, Report, early, trackedView, predictedTracks, reportOf, isReported, snocIf, reportsOf, isYoung, acceptedFrame}
@@ -38,12 +38,11 @@ use Rattle.reports.specs.Written.{Written}
 use Rattle.oc_sort_tracker.specs.Answered.{Answered, refusedWith, joined, settledOn, Ready}
 use Rattle.oc_sort_tracker.proofs.Agree.{refused-full, accepted-agree, ready, left-short}
 use Rattle.oc_sort_tracker.proofs.Framing.{unsound, early-refused, accepted}
-use Rattle.image.specs.declared.TrackImage.{TrackImage}
 use Rattle.image.specs.declared.TrackerImage.{TrackerImage}
-use Rattle.image.specs.Image.{tagged, freezeTrack, freezeTracker, thawTracker, flagOf, isSet, meantTrack, meant}
-use Rattle.host.specs.Host.{toldOf, Hosted}
+use Rattle.image.specs.Image.{freezeTracker, thawTracker, meant}
+use Rattle.making.specs.Making.{toldOf}
+use Rattle.host.specs.Host.{Hosted}
 use Rattle.host.proofs.Hosting.{nonzero, unmeant, stopped, stepped}
-use Rattle.host.proofs.Testing.{flag-of}
 
 -- ---- ageing before the reports
 
@@ -172,32 +171,16 @@ module _ (i : TrackerImage) (input boxes : List Float) (ids : List ℕ) where
               let v : Written (reportsOf (t .settings) (t .frames + 1) all) n boxes ids boxes′ ids′ = subst (λ (rs : List Report). Written rs n boxes ids boxes′ ids′) same-reports w in
               record { outcome = refl; count = v .count; next = refl; boxes-after = v .boxes-after; ids-after = v .ids-after }
 
-          -- the image with these tracks
-          abbrev pub imageOf : List Tracked → ℕ → TrackerImage
-          imageOf l byte = record {
-            issued = i .issued + p .left .n;
-            count = length l;
-            «det_thresh» = i .«det_thresh»;
-            «iou_threshold» = i .«iou_threshold»;
-            inertia = i .inertia;
-            «max_age» = i .«max_age»;
-            «min_hits» = i .«min_hits»;
-            «delta_t» = i .«delta_t»;
-            «use_byte» = byte;
-            frames = i .frames + 1;
-            tracks = map freezeTrack (l ++ replicate (64 - length l) blank);
-          }
+          -- the state that the frame leaves
+          abbrev pub stateAfter : Tracker
+          stateAfter = stateOf (t .settings) (t .frames + 1) (t .issued + p .left .n) fs
 
-          is-tag : tagged (i .«use_byte») ≡ true
-          unfolding meant
-          is-tag = and-left (tagged (i .«use_byte»)) _ means
+          settled : stateAfter ≡ settledOn t all (p .left .n) .next
+          unfolding settledOn
+          settled = ap (stateOf (t .settings) (t .frames + 1) (t .issued + p .left .n)) (sym left-young)
 
-          frozen : imageOf fs (i .«use_byte») ≡ freezeTracker (settledOn t all (p .left .n) .next)
-          unfolding settledOn stateOf freezeTracker thawTracker
-          frozen = ap₂ imageOf (sym left-young) (flag-of (i .«use_byte») is-tag)
-
-          pub step-accepted : (image : TrackerImage) (n : ℕ) (boxes′ : List Float) (ids′ : List ℕ) → Written (reportsOf (t .settings) (t .frames + 1) fs) n boxes ids boxes′ ids′ → image ≡ imageOf fs (i .«use_byte»)
+          pub step-accepted : (image : TrackerImage) (n : ℕ) (boxes′ : List Float) (ids′ : List ℕ) → Written (reportsOf (t .settings) (t .frames + 1) fs) n boxes ids boxes′ ids′ → image ≡ freezeTracker stateAfter
               → Hosted i input boxes ids image (record { number = 0; count = n }) boxes′ ids′
           step-accepted image n boxes′ ids′ w e =
               let a : Answered (acceptedFrame t input) boxes ids (answer n) boxes′ ids′ = accepted-agree t input ts refl p over (answer n) boxes boxes′ ids ids′ fits (answered n boxes′ ids′ w) in
-              stepped i input boxes ids means t refl (answer n) boxes′ ids′ (accepted t input boxes ids (answer n) fine k boxes′ ids′ a) 0 refl refl image (e ∙ frozen)
+              stepped i input boxes ids means t refl (answer n) boxes′ ids′ (accepted t input boxes ids (answer n) fine k boxes′ ids′ a) 0 refl refl image (e ∙ ap freezeTracker settled)

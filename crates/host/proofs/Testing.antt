@@ -5,7 +5,6 @@ use mathlib.Core.List.{List, [], _∷_, map}
 use Prim.Native.Nat.{ℕ, zero, suc, _+_, _≤_, _<_}
 use native.Mathlib.Numerals.{add-one}
 use native.Mathlib.Omega.{arith}
-use borrow.Author.Tests.{leb-true}
 use lib.ListN.{length, take, drop, getD, length-map, drop-of-length-le, List·getD-map}
 use lib.Seq.{drop-cons, getD-take, length-take-le}
 use Rattle.lists.specs.Lists.{every}
@@ -15,23 +14,12 @@ use Rattle.frame.specs.declared.Tracked.{Tracked}
 use Rattle.frame.specs.State.{rising, trackRules, stateRules}
 use Rattle.rules.specs.Rules.{totalRules, soundAt, soundFrom}
 use Rattle.rules.proofs.Sound.{passed, failed, none-left, id-below}
-use Rattle.image.specs.declared.TrackImage.{TrackImage}
 use Rattle.image.specs.declared.TrackerImage.{TrackerImage}
-use Rattle.image.specs.Image.{tagged, thawTrack, thawTracker, meantTrack, meant, flagOf, isSet}
-
-pub thaw-id : (c : TrackImage) → thawTrack c .id ≡ c .id
-unfolding thawTrack
-thaw-id c = refl
-
--- a tag that means something is the flag that it stands for
-pub flag-of : (n : ℕ) → tagged n ≡ true → n ≡ flagOf (isSet n)
-flag-of zero h = refl
-flag-of (suc zero) h = refl
-flag-of (suc (suc n)) h = let z : suc (suc n) ≤ 1 = leb-true (suc (suc n)) 1 h in absurd (omega (arith, z))
+use Rattle.image.specs.Image.{Cell, tagged, thawTrack, thawTracker, meantTrack, meant, cells, issuedIn, countIn, byteIn, framesIn}
 
 -- ---- the live tracks
 
-module _ (s : Settings) (frames issued : ℕ) (w : List TrackImage) (n : ℕ) where
+module _ (s : Settings) (frames issued : ℕ) (w : List Cell) (n : ℕ) where
   abbrev l : List Tracked
   l = map thawTrack w
 
@@ -39,8 +27,8 @@ module _ (s : Settings) (frames issued : ℕ) (w : List TrackImage) (n : ℕ) wh
   abbrev pub usable : ℕ → ℕ → Bool
   usable from k = every meantTrack (drop k (take n w)) && soundFrom s frames issued from (drop k (take n l))
 
-  module _ (from k : ℕ) (d : TrackImage) (short : n ≤ length w) (below : k < n) where
-    abbrev c : TrackImage
+  module _ (from k : ℕ) (d : Cell) (short : n ≤ length w) (below : k < n) where
+    abbrev c : Cell
     c = getD w k d
 
     here : drop k (take n w) ≡ c ∷ drop (k + 1) (take n w)
@@ -56,12 +44,12 @@ module _ (s : Settings) (frames issued : ℕ) (w : List TrackImage) (n : ℕ) wh
     long = omega (arith, short, length-map w thawTrack)
 
     -- the track at k passes
-    pub usable-passed : (meantTrack c && soundAt s frames issued from (thawTrack c)) ≡ true → usable from k ≡ usable (c .id + 1) (k + 1)
+    pub usable-passed : (meantTrack c && soundAt s frames issued from (thawTrack c)) ≡ true → usable from k ≡ usable (thawTrack c .id + 1) (k + 1)
     usable-passed h =
         let m : meantTrack c ≡ true = and-left (meantTrack c) (soundAt s frames issued from (thawTrack c)) h in
         let o : soundAt s frames issued from (getD l k (thawTrack d)) ≡ true = ap (soundAt s frames issued from) at ∙ and-right (meantTrack c) (soundAt s frames issued from (thawTrack c)) h in
-        let p : soundFrom s frames issued from (drop k (take n l)) ≡ soundFrom s frames issued (c .id + 1) (drop (k + 1) (take n l))
-        = passed s frames issued l n k from (thawTrack d) long below o ∙ ap (λ (j : ℕ). soundFrom s frames issued (j + 1) (drop (k + 1) (take n l))) (ap (λ (e : Tracked). e .id) at ∙ thaw-id c) in
+        let p : soundFrom s frames issued from (drop k (take n l)) ≡ soundFrom s frames issued (thawTrack c .id + 1) (drop (k + 1) (take n l))
+        = passed s frames issued l n k from (thawTrack d) long below o ∙ ap (λ (e : Tracked). soundFrom s frames issued (e .id + 1) (drop (k + 1) (take n l))) at in
         let q : every meantTrack (drop k (take n w)) ≡ every meantTrack (drop (k + 1) (take n w)) = meant-here ∙ ap (λ (b : Bool). b && every meantTrack (drop (k + 1) (take n w))) m in
         (λ i. q i && p i)
 
@@ -73,10 +61,8 @@ module _ (s : Settings) (frames issued : ℕ) (w : List TrackImage) (n : ℕ) wh
         go false e f = ap (λ (b : Bool). b && soundFrom s frames issued from (drop k (take n l))) (meant-here ∙ ap (λ (b : Bool). b && every meantTrack (drop (k + 1) (take n w))) e)
         go true e f = ap (λ (b : Bool). every meantTrack (drop k (take n w)) && b) (failed s frames issued l n k from (thawTrack d) long below (ap (soundAt s frames issued from) at ∙ f)) ∙ and-false (every meantTrack (drop k (take n w)))
 
-    pub usable-id : (meantTrack c && soundAt s frames issued from (thawTrack c)) ≡ true → c .id < issued
-    usable-id h =
-        let b : thawTrack c .id < issued = id-below s frames issued from (thawTrack c) (and-right (meantTrack c) (soundAt s frames issued from (thawTrack c)) h) in
-        omega (arith, b, thaw-id c)
+    pub usable-id : (meantTrack c && soundAt s frames issued from (thawTrack c)) ≡ true → thawTrack c .id < issued
+    usable-id h = id-below s frames issued from (thawTrack c) (and-right (meantTrack c) (soundAt s frames issued from (thawTrack c)) h)
 
   pub usable-all : (from : ℕ) → n ≤ length w → usable from n ≡ true
   usable-all from h =
@@ -87,10 +73,10 @@ module _ (s : Settings) (frames issued : ℕ) (w : List TrackImage) (n : ℕ) wh
 
 module _ (i : TrackerImage) where
   abbrev pub totals : Bool
-  totals = tagged (i .«use_byte») && totalRules (thawTracker i .settings) (i .frames) (i .issued) (i .count)
+  totals = tagged (byteIn i) && totalRules (thawTracker i .settings) (framesIn i) (issuedIn i) (countIn i)
 
   abbrev pub tracks : Bool
-  tracks = usable (thawTracker i .settings) (i .frames) (i .issued) (i .tracks) (i .count) 0 0
+  tracks = usable (thawTracker i .settings) (framesIn i) (issuedIn i) (cells i) (countIn i) 0 0
 
   apart : (u m a r e : Bool) → ((u && m) && (a && r && e)) ≡ ((u && a) && (m && (r && e)))
   apart false m a r e = refl
@@ -100,7 +86,7 @@ module _ (i : TrackerImage) where
 
   tested : (meant i && stateRules (thawTracker i)) ≡ (totals && tracks)
   unfolding meant stateRules totalRules thawTracker
-  tested = apart (tagged (i .«use_byte»)) _ (totalRules (thawTracker i .settings) (i .frames) (i .issued) (i .count)) _ _
+  tested = apart (tagged (byteIn i)) _ (totalRules (thawTracker i .settings) (framesIn i) (issuedIn i) (countIn i)) _ _
 
   pub bad-totals : totals ≡ false → (meant i && stateRules (thawTracker i)) ≡ false
   bad-totals h = tested ∙ ap (λ (b : Bool). b && tracks) h

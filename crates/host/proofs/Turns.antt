@@ -1,86 +1,83 @@
--- The table of images on its way through a frame: one more turn of each loop that fills it. Assumes nothing.
+-- The table of tracks on its way through a frame: one more turn of each loop that fills it. Assumes nothing.
 use mathlib.Core.Path.{_≡_, refl, sym, ap, subst, _∙_}
 use mathlib.Core.Bool.{Bool, true, false}
-use mathlib.Core.List.{List, [], _∷_, _++_, map, append-assoc, append-nil}
-use Prim.Native.Nat.{ℕ, zero, suc, _+_, _-_, _≤_, _<_}
+use mathlib.Core.List.{List, [], _∷_, _++_, append-nil}
+use Prim.Native.Nat.{ℕ, suc, _+_, _≤_, _<_}
+use native.Mathlib.Nat.{add-zero}
 use native.Mathlib.Numerals.{add-one}
 use native.Mathlib.Omega.{arith}
-use lib.ListN.{length, take, drop, getD, set, replicate, length-append, length-set, length-map, length-replicate, replicate-append-replicate, List·getD-map}
-use lib.Seq.{length-take-le}
-use Rattle.lists.specs.Lists.{put, keep, tab}
+use lib.ListN.{length, take, drop, getD, set, length-append, length-set}
+use lib.Seq.{take-suc-set, getD-take, getD-drop, drop-drop, drop-set-lt}
+use Rattle.lists.specs.Lists.{put, keep}
 use Rattle.lists.proofs.Keep.{keep-append, keep-short}
 use Rattle.object.specs.declared.Detection.{Detection}
 use Rattle.strack.specs.declared.Kept.{Kept}
 use Rattle.frame.specs.declared.Settings.{Settings}
 use Rattle.frame.specs.declared.Tracked.{Tracked}
-use Rattle.frame.specs.State.{blank}
 use Rattle.frame.specs.Frame.{predictTracked, unbroken, isYoung}
-use Rattle.tracks.specs.Tracks.{givenOne, givenAll, newborn, bornOf}
+use Rattle.tracks.specs.Tracks.{givenOne, givenAll, newborn}
 use Rattle.tracks.proofs.Table as table
-use Rattle.image.specs.declared.TrackImage.{TrackImage}
-use Rattle.image.specs.Image.{thawTrack, freezeTrack}
-use Rattle.image.proofs.Holding.{Held, held-more, held-at, held-all, rest-at, rest-next, rest-set}
-use Rattle.image.proofs.Back.{track-back}
 
--- the first cells of w are the images of es, and w has 64 cells
-pub record Holds (es : List Tracked) (n : ℕ) (w : List TrackImage) : Type 0 where
+-- the first cells of w are es, and w has 64 cells
+pub record Holds (es : List Tracked) (n : ℕ) (w : List Tracked) : Type 0 where
   pub count : n ≡ length es
-  pub held : Held freezeTrack w es
+  pub held : take n w ≡ es
   pub long : length w ≡ 64
 
-pub holds-none : (w : List TrackImage) → length w ≡ 64 → Holds [] 0 w
+pub holds-none : (w : List Tracked) → length w ≡ 64 → Holds [] 0 w
 holds-none w h = record { count = refl; held = refl; long = h }
 
-pub holds-more : (es : List Tracked) (n : ℕ) (w : List TrackImage) (e : Tracked) (x : TrackImage) → Holds es n w → n < 64 → x ≡ freezeTrack e → Holds (es ++ e ∷ []) (n + 1) (set w n x)
-holds-more es n w e x h b p = record {
+pub holds-more : (es : List Tracked) (n : ℕ) (w : List Tracked) (e : Tracked) → Holds es n w → n < 64 → Holds (es ++ e ∷ []) (n + 1) (set w n e)
+holds-more es n w e h b = record {
   count = omega (arith, h .count, length-append es (e ∷ []));
-  held = subst (λ (k : ℕ). Held freezeTrack (set w k x) (es ++ e ∷ [])) (sym (h .count)) (subst (λ (y : TrackImage). Held freezeTrack (set w (length es) y) (es ++ e ∷ [])) (sym p) (held-more freezeTrack w es e (h .held) (omega (arith, h .count, h .long, b))));
-  long = length-set w n x ∙ h .long;
+  held = ap (λ (k : ℕ). take k (set w n e)) (add-one n) ∙ take-suc-set w n e (omega (arith, h .long, b)) ∙ ap (λ (l : List Tracked). l ++ (e ∷ [])) (h .held);
+  long = length-set w n e ∙ h .long;
 }
 
--- the track that an image of the table stands for
-pub holds-at : (es : List Tracked) (n : ℕ) (w : List TrackImage) (j : ℕ) (d : TrackImage) (e : Tracked) → Holds es n w → j < n → thawTrack (getD w j d) ≡ getD es j e
-holds-at es n w j d e h b = ap thawTrack (held-at freezeTrack w es j d e (h .held) (omega (arith, b, h .count))) ∙ track-back (getD es j e)
+pub holds-at : (es : List Tracked) (n : ℕ) (w : List Tracked) (j : ℕ) (d : Tracked) → Holds es n w → j < n → getD w j d ≡ getD es j d
+holds-at es n w j d h b = sym (getD-take n w j d b) ∙ ap (λ (l : List Tracked). getD l j d) (h .held)
 
 -- ---- loops that keep what passes, in place
 
--- of l's tracks before k those that pass stand first, and w₀'s images from k on are still there
-pub record Keeping (es : List Tracked) (w₀ : List TrackImage) (k n : ℕ) (w : List TrackImage) : Type 0 where
+-- es stand first, and w₀'s tracks from k on are still there
+pub record Keeping (es : List Tracked) (w₀ : List Tracked) (k n : ℕ) (w : List Tracked) : Type 0 where
   pub holds : Holds es n w
   pub few : n ≤ k
   pub rest : drop k w ≡ drop k w₀
 
-pub keeping-none : (w : List TrackImage) → length w ≡ 64 → Keeping [] w 0 0 w
+pub keeping-none : (w : List Tracked) → length w ≡ 64 → Keeping [] w 0 0 w
 keeping-none w h = record { holds = holds-none w h; few = omega arith; rest = refl }
 
-module _ (es : List Tracked) (w₀ : List TrackImage) (k n : ℕ) (w : List TrackImage) (h : Keeping es w₀ k n w) where
-  pub still : (d : TrackImage) → getD w k d ≡ getD w₀ k d
-  still d = rest-at w w₀ k (h .rest) d
+module _ (es : List Tracked) (w₀ : List Tracked) (k n : ℕ) (w : List Tracked) (h : Keeping es w₀ k n w) where
+  pub still : (d : Tracked) → getD w k d ≡ getD w₀ k d
+  still d =
+      ap (λ (i : ℕ). getD w i d) (sym (add-zero k))
+      ∙ sym (getD-drop k w 0 d)
+      ∙ ap (λ (l : List Tracked). getD l 0 d) (h .rest)
+      ∙ getD-drop k w₀ 0 d
+      ∙ ap (λ (i : ℕ). getD w₀ i d) (add-zero k)
 
-  pub keeping-taken : (fs : List Tracked) (e : Tracked) (x : TrackImage) → fs ≡ es ++ e ∷ [] → k < 64 → x ≡ freezeTrack e → Keeping fs w₀ (k + 1) (n + 1) (set w n x)
-  keeping-taken fs e x p b q = record {
-    holds = subst (λ (l : List Tracked). Holds l (n + 1) (set w n x)) (sym p) (holds-more es n w e x (h .holds) (omega (arith, h .few, b)) q);
+  next : drop (k + 1) w ≡ drop (k + 1) w₀
+  next = sym (drop-drop 1 k w) ∙ ap (drop 1) (h .rest) ∙ drop-drop 1 k w₀
+
+  pub keeping-taken : (fs : List Tracked) (e : Tracked) → fs ≡ es ++ e ∷ [] → k < 64 → Keeping fs w₀ (k + 1) (n + 1) (set w n e)
+  keeping-taken fs e p b = record {
+    holds = subst (λ (l : List Tracked). Holds l (n + 1) (set w n e)) (sym p) (holds-more es n w e (h .holds) (omega (arith, h .few, b)));
     few = omega (arith, h .few);
-    rest = rest-set w w₀ k (h .rest) n x (h .few);
+    rest = drop-set-lt (k + 1) w n e (omega (arith, h .few)) ∙ next;
   }
 
   pub keeping-left : (fs : List Tracked) → fs ≡ es → Keeping fs w₀ (k + 1) n w
-  keeping-left fs p = record { holds = subst (λ (l : List Tracked). Holds l n w) (sym p) (h .holds); few = omega (arith, h .few); rest = rest-next w w₀ k (h .rest) }
+  keeping-left fs p = record { holds = subst (λ (l : List Tracked). Holds l n w) (sym p) (h .holds); few = omega (arith, h .few); rest = next }
 
 -- ---- prediction
 
-module _ (w₀ : List TrackImage) (k : ℕ) (d : TrackImage) (e : Tracked) (below : k < length w₀) (is : e ≡ predictTracked (thawTrack (getD w₀ k d))) where
-  abbrev l : List Tracked
-  l = map thawTrack w₀
-
+module _ (w₀ : List Tracked) (k : ℕ) (d : Tracked) (e : Tracked) (below : k < length w₀) (is : e ≡ predictTracked (getD w₀ k d)) where
   abbrev ahead : ℕ → List Tracked
-  ahead j = table.passed unbroken predictTracked l j
-
-  same : predictTracked (getD l k (thawTrack d)) ≡ e
-  same = ap predictTracked (List·getD-map thawTrack w₀ k d) ∙ sym is
+  ahead j = table.passed unbroken predictTracked w₀ j
 
   more : ahead (k + 1) ≡ ahead k ++ put (unbroken e) e []
-  more = table.one-more unbroken predictTracked l k (thawTrack d) (omega (arith, below, length-map w₀ thawTrack)) ∙ ap (λ (x : Tracked). ahead k ++ put (unbroken x) x []) same
+  more = table.one-more unbroken predictTracked w₀ k d below ∙ ap (λ (x : Tracked). ahead k ++ put (unbroken x) x []) (sym is)
 
   pub ahead-taken : unbroken e ≡ true → ahead (k + 1) ≡ ahead k ++ e ∷ []
   ahead-taken t = more ∙ ap (λ (b : Bool). ahead k ++ put b e []) t
@@ -113,32 +110,11 @@ module _ (s : Settings) (es : List Tracked) (ks : List Kept) where
 
 -- ---- births
 
-module _ (es : List Tracked) (n id : ℕ) (f : ℕ → Detection) (b : ℕ) (w : List TrackImage) (d : Detection) (x : TrackImage) where
-  pub born-more : Holds (table.joined es id f b) (n + b) w → n + b < 64 → d ≡ f b → x ≡ freezeTrack (newborn (id + b) d) → Holds (table.joined es id f (b + 1)) (n + (b + 1)) (set w (n + b) x)
+module _ (es : List Tracked) (n id : ℕ) (f : ℕ → Detection) (b : ℕ) (w : List Tracked) (d : Detection) (e : Tracked) where
+  pub born-more : Holds (table.joined es id f b) (n + b) w → n + b < 64 → d ≡ f b → e ≡ newborn (id + b) d → Holds (table.joined es id f (b + 1)) (n + (b + 1)) (set w (n + b) e)
   born-more h r p q =
-      let y : x ≡ freezeTrack (newborn (id + b) (f b)) = q ∙ ap (λ (z : Detection). freezeTrack (newborn (id + b) z)) p in
+      let y : newborn (id + b) (f b) ≡ e = sym (q ∙ ap (newborn (id + b)) p) in
       let z : (n + b) + 1 ≡ n + (b + 1) = omega arith in
-      subst (λ (k : ℕ). Holds (table.joined es id f (b + 1)) k (set w (n + b) x)) z
-      (subst (λ (l : List Tracked). Holds l (n + b + 1) (set w (n + b) x)) (sym (table.joined-more es id f b)) (holds-more (table.joined es id f b) (n + b) w (newborn (id + b) (f b)) x h r y))
-
--- ---- blank cells
-
-module _ (es : List Tracked) where
-  abbrev pub filled : ℕ → List Tracked
-  filled m = es ++ replicate (m - length es) blank
-
-  pub filled-none : (n : ℕ) (w : List TrackImage) → Holds es n w → Holds (filled n) n w
-  filled-none n w h =
-      let z : n - length es ≡ 0 = omega (arith, h .count) in
-      subst (λ (l : List Tracked). Holds l n w) (sym (ap (λ (k : ℕ). es ++ replicate k blank) z ∙ append-nil es)) h
-
-  pub filled-more : (m : ℕ) (w : List TrackImage) (x : TrackImage) → length es ≤ m → Holds (filled m) m w → m < 64 → x ≡ freezeTrack blank → Holds (filled (m + 1)) (m + 1) (set w m x)
-  filled-more m w x l h b p =
-      let z : (m - length es) + 1 ≡ (m + 1) - length es = omega (arith, l) in
-      subst (λ (k : List Tracked). Holds k (m + 1) (set w m x))
-      (append-assoc es (replicate (m - length es) blank) (blank ∷ []) ∙ ap (λ (k : List Tracked). es ++ k) (replicate-append-replicate (m - length es) 1 blank ∙ ap (λ (k : ℕ). replicate k blank) z))
-      (holds-more (filled m) m w blank x h b p)
-
-  pub filled-all : (m : ℕ) (w : List TrackImage) → Holds (filled m) m w → m ≡ 64 → w ≡ map freezeTrack (es ++ replicate (64 - length es) blank)
-  filled-all m w h e =
-      held-all freezeTrack w (filled m) (h .held) (omega (arith, h .count, h .long, e)) ∙ ap (λ (k : ℕ). map freezeTrack (filled k)) e
+      let j : table.joined es id f b ++ e ∷ [] ≡ table.joined es id f (b + 1) = ap (λ (x : Tracked). table.joined es id f b ++ (x ∷ [])) (sym y) ∙ sym (table.joined-more es id f b) in
+      subst (λ (k : ℕ). Holds (table.joined es id f (b + 1)) k (set w (n + b) e)) z
+      (subst (λ (l : List Tracked). Holds l (n + b + 1) (set w (n + b) e)) j (holds-more (table.joined es id f b) (n + b) w e h r))

@@ -1,4 +1,6 @@
-pub mod Cells
+pub mod Sets
+pub mod Putting
+pub mod Reading
+pub mod Filling
 pub mod Back
-pub mod Holding
 pub mod Known

@@ -1,13 +1,19 @@
--- The state as C and Rust pass it: what stands in the image of a state, what state an image stands for, and which images mean something. Definitions only.
+-- The state as C and Rust pass it: three lists of numbers, one for each type. What stands in the lists of a state, what state lists stand for, and which mean something. Definitions only.
+--
+-- wide, 66: ids issued, tracks, and each track's id
+-- floats, 10,435: det_thresh, iou_threshold, inertia, and 163 of each track: its filter (7 and 49), the saved one, its last box (5), the list's box (4), its direction (2), its kept boxes (5 each)
+-- words, 965: max_age, min_hits, delta_t, use_byte, frames, and 15 of each track: frozen, age, streak, since, and the tags of its last box, the list's box, its direction and its kept boxes
 use mathlib.Core.Path.{_≡_}
 use mathlib.Core.Bool.{Bool, true, false, not, _&&_}
-use mathlib.Core.List.{map}
-use Prim.Native.Nat.{ℕ}
+use mathlib.Core.List.{List, [], _∷_, _++_, map}
+use Prim.Native.Nat.{ℕ, _+_, _-_, _*_}
 use lib.Dec.{eqb, leb}
-use lib.Ieee.{Float}
-use lib.ListN.{take}
+use lib.Ieee.{Float, nan}
+use lib.ListN.{length, take, drop, getD, set, replicate}
+use lib.Seq.{sets}
 use Rattle.ieee.specs.Ops.{f32}
-use Rattle.lists.specs.Lists.{pick, every}
+use Rattle.lists.specs.Lists.{pick, every, flat, tab}
+use Rattle.kalman_filter.specs.declared.Filter.{Filter}
 use Rattle.strack.specs.declared.LastBox.{LastBox}
 use Rattle.strack.specs.declared.LastBox.the-variants.{Unseen, Seen}
 use Rattle.strack.specs.declared.ListBox.{ListBox}
@@ -17,13 +23,9 @@ use Rattle.strack.specs.declared.Direction.the-variants.{Unknown, Known}
 use Rattle.strack.specs.declared.Kept.{Kept}
 use Rattle.frame.specs.declared.Tracked.{Tracked}
 use Rattle.frame.specs.declared.Tracker.{Tracker}
-use Rattle.image.specs.declared.BoxImage.{BoxImage}
-use Rattle.image.specs.declared.ListImage.{ListImage}
-use Rattle.image.specs.declared.DirectionImage.{DirectionImage}
-use Rattle.image.specs.declared.TrackImage.{TrackImage}
 use Rattle.image.specs.declared.TrackerImage.{TrackerImage}
 
-abbrev f0 : Float
+abbrev pub f0 : Float
 f0 = f32 0
 
 -- ---- flags and tags
@@ -39,121 +41,193 @@ isSet n = not (eqb n 0)
 abbrev pub tagged : ℕ → Bool
 tagged n = leb n 1
 
+-- ---- the numbers of a filter, and the filter whose numbers start at k
+
+abbrev pub filterFloats : Filter → List Float
+filterFloats f = f .x ++ f .p
+
+abbrev pub filterAt : List Float → ℕ → Filter
+filterAt fs k = record { x = tab (λ j. getD fs (k + j) nan) 7; p = tab (λ j. getD fs (k + 7 + j) nan) 49 }
+
 -- ---- boxes and directions: one that is absent is tag 0 and zeros; tag 0 is absent, any other is present
 
-abbrev pub freezeBox : LastBox → BoxImage
-freezeBox Unseen = record { is = 0; x1 = f0; y1 = f0; x2 = f0; y2 = f0; score = f0 }
-freezeBox (Seen x1 y1 x2 y2 score) = record { is = 1; x1 = x1; y1 = y1; x2 = x2; y2 = y2; score = score }
+abbrev pub boxTag : LastBox → ℕ
+boxTag Unseen = 0
+boxTag (Seen x1 y1 x2 y2 score) = 1
 
-abbrev pub thawBox : BoxImage → LastBox
-thawBox b = pick (isSet (b .is)) (Seen (b .x1) (b .y1) (b .x2) (b .y2) (b .score)) Unseen
+abbrev pub boxFloats : LastBox → List Float
+boxFloats Unseen = f0 ∷ f0 ∷ f0 ∷ f0 ∷ f0 ∷ []
+boxFloats (Seen x1 y1 x2 y2 score) = x1 ∷ y1 ∷ x2 ∷ y2 ∷ score ∷ []
 
-abbrev pub freezeList : ListBox → ListImage
-freezeList Empty = record { is = 0; x = f0; y = f0; s = f0; r = f0 }
-freezeList (Holds z) = record { is = 1; x = z .x; y = z .y; s = z .s; r = z .r }
+abbrev pub boxAt : ℕ → List Float → ℕ → LastBox
+boxAt tag fs k = pick (isSet tag) (Seen (getD fs k nan) (getD fs (k + 1) nan) (getD fs (k + 2) nan) (getD fs (k + 3) nan) (getD fs (k + 4) nan)) Unseen
 
-abbrev pub thawList : ListImage → ListBox
-thawList b = pick (isSet (b .is)) (Holds (record { x = b .x; y = b .y; s = b .s; r = b .r })) Empty
+abbrev pub listTag : ListBox → ℕ
+listTag Empty = 0
+listTag (Holds z) = 1
 
-abbrev pub freezeDirection : Direction → DirectionImage
-freezeDirection Unknown = record { is = 0; dy = f0; dx = f0 }
-freezeDirection (Known dy dx) = record { is = 1; dy = dy; dx = dx }
+abbrev pub listFloats : ListBox → List Float
+listFloats Empty = f0 ∷ f0 ∷ f0 ∷ f0 ∷ []
+listFloats (Holds z) = z .x ∷ z .y ∷ z .s ∷ z .r ∷ []
 
-abbrev pub thawDirection : DirectionImage → Direction
-thawDirection d = pick (isSet (d .is)) (Known (d .dy) (d .dx)) Unknown
+abbrev pub listAt : ℕ → List Float → ℕ → ListBox
+listAt tag fs k = pick (isSet tag) (Holds (record { x = getD fs k nan; y = getD fs (k + 1) nan; s = getD fs (k + 2) nan; r = getD fs (k + 3) nan })) Empty
 
-abbrev pub freezeKept : Kept → BoxImage
-freezeKept k = freezeBox (k .at)
+abbrev pub directionTag : Direction → ℕ
+directionTag Unknown = 0
+directionTag (Known dy dx) = 1
 
-abbrev pub thawKept : BoxImage → Kept
-thawKept b = record { at = thawBox b }
+abbrev pub directionFloats : Direction → List Float
+directionFloats Unknown = f0 ∷ f0 ∷ []
+directionFloats (Known dy dx) = dy ∷ dx ∷ []
 
--- ---- a track
+abbrev pub directionAt : ℕ → List Float → ℕ → Direction
+directionAt tag fs k = pick (isSet tag) (Known (getD fs k nan) (getD fs (k + 1) nan)) Unknown
 
-unfoldable pub freezeTrack : Tracked → TrackImage
+abbrev pub keptTag : Kept → ℕ
+keptTag k = boxTag (k .at)
+
+abbrev pub keptFloats : Kept → List Float
+keptFloats k = boxFloats (k .at)
+
+-- eight kept boxes, whose tags start at w and whose numbers start at k
+abbrev pub keptAt : List ℕ → ℕ → List Float → ℕ → List Kept
+keptAt ws w fs k = tab (λ j. record { at = boxAt (getD ws (w + j) 0) fs (k + 5 * j) }) 8
+
+-- ---- a track: its id, its 163 floats and its 15 words
+
+pub record Cell : Type 0 where
+  pub id : ℕ
+  pub floats : List Float
+  pub words : List ℕ
+
+unfoldable pub freezeTrack : Tracked → Cell
 freezeTrack e =
     let t = e .track in
     record {
       id = e .id;
-      filter = t .filter;
-      saved = t .saved;
-      frozen = flagOf (t .frozen);
-      age = t .age;
-      streak = t .streak;
-      since = t .since;
-      last = freezeBox (t .last);
-      list = freezeList (t .list);
-      direction = freezeDirection (t .direction);
-      kept = map freezeKept (t .kept);
+      floats = filterFloats (t .filter) ++ (filterFloats (t .saved) ++ (boxFloats (t .last) ++ (listFloats (t .list) ++ (directionFloats (t .direction) ++ flat keptFloats (t .kept)))));
+      words = flagOf (t .frozen) ∷ t .age ∷ t .streak ∷ t .since ∷ boxTag (t .last) ∷ listTag (t .list) ∷ directionTag (t .direction) ∷ map keptTag (t .kept);
     }
 
-unfoldable pub thawTrack : TrackImage → Tracked
-thawTrack i = record {
-  id = i .id;
-  track = record {
-    filter = i .filter;
-    saved = i .saved;
-    frozen = isSet (i .frozen);
-    age = i .age;
-    streak = i .streak;
-    since = i .since;
-    last = thawBox (i .last);
-    list = thawList (i .list);
-    direction = thawDirection (i .direction);
-    kept = map thawKept (i .kept);
-  };
-}
+abbrev pub idOf : Tracked → ℕ
+idOf e = e .id
 
-abbrev pub meantKept : BoxImage → Bool
-meantKept b = tagged (b .is)
+abbrev pub floatsOf : Tracked → List Float
+floatsOf e = freezeTrack e .floats
+
+abbrev pub wordsOf : Tracked → List ℕ
+wordsOf e = freezeTrack e .words
+
+unfoldable pub thawTrack : Cell → Tracked
+thawTrack c =
+    let fs = c .floats in
+    let ws = c .words in
+    record {
+      id = c .id;
+      track = record {
+        filter = filterAt fs 0;
+        saved = filterAt fs 56;
+        frozen = isSet (getD ws 0 0);
+        age = getD ws 1 0;
+        streak = getD ws 2 0;
+        since = getD ws 3 0;
+        last = boxAt (getD ws 4 0) fs 112;
+        list = listAt (getD ws 5 0) fs 117;
+        direction = directionAt (getD ws 6 0) fs 121;
+        kept = keptAt ws 7 fs 123;
+      };
+    }
 
 -- all its tags mean something
-unfoldable pub meantTrack : TrackImage → Bool
-meantTrack i = tagged (i .frozen) && tagged (i .last .is) && tagged (i .list .is) && tagged (i .direction .is) && every meantKept (i .kept)
+unfoldable pub meantTrack : Cell → Bool
+meantTrack c = tagged (getD (c .words) 0 0) && every tagged (drop 4 (c .words))
 
 -- ---- the tracker; the cells past the count are converted too
+
+-- the image in these lists
+abbrev pub imageOf : List ℕ → List Float → List ℕ → TrackerImage
+imageOf wide floats words = record { wide = wide; floats = floats; words = words }
+
+abbrev pub part : {A : Type 0} → ℕ → ℕ → List A → List A
+part from n l = take n (drop from l)
+
+-- what it holds of track k
+unfoldable pub cellAt : TrackerImage → ℕ → Cell
+cellAt i k = record { id = getD (i .wide) (2 + k) 0; floats = part (3 + 163 * k) 163 (i .floats); words = part (5 + 15 * k) 15 (i .words) }
+
+abbrev pub cells : TrackerImage → List Cell
+cells i = tab (cellAt i) 64
+
+abbrev pub issuedIn : TrackerImage → ℕ
+issuedIn i = getD (i .wide) 0 0
+
+abbrev pub countIn : TrackerImage → ℕ
+countIn i = getD (i .wide) 1 0
+
+abbrev pub byteIn : TrackerImage → ℕ
+byteIn i = getD (i .words) 3 0
+
+abbrev pub framesIn : TrackerImage → ℕ
+framesIn i = getD (i .words) 4 0
+
+unfoldable pub thawTracker : TrackerImage → Tracker
+thawTracker i =
+    let fs = i .floats in
+    let ws = i .words in
+    record {
+      settings = record {
+        «det_thresh» = getD fs 0 nan;
+        «iou_threshold» = getD fs 1 nan;
+        inertia = getD fs 2 nan;
+        «max_age» = getD ws 0 0;
+        «min_hits» = getD ws 1 0;
+        «delta_t» = getD ws 2 0;
+        «use_byte» = isSet (byteIn i);
+      };
+      frames = framesIn i;
+      issued = issuedIn i;
+      count = countIn i;
+      table = map thawTrack (cells i);
+    }
 
 unfoldable pub freezeTracker : Tracker → TrackerImage
 freezeTracker t =
     let s = t .settings in
     record {
-      issued = t .issued;
-      count = t .count;
-      «det_thresh» = s .«det_thresh»;
-      «iou_threshold» = s .«iou_threshold»;
-      inertia = s .inertia;
-      «max_age» = s .«max_age»;
-      «min_hits» = s .«min_hits»;
-      «delta_t» = s .«delta_t»;
-      «use_byte» = flagOf (s .«use_byte»);
-      frames = t .frames;
-      tracks = map freezeTrack (t .table);
+      wide = t .issued ∷ t .count ∷ map idOf (t .table);
+      floats = s .«det_thresh» ∷ s .«iou_threshold» ∷ s .inertia ∷ flat floatsOf (t .table);
+      words = s .«max_age» ∷ s .«min_hits» ∷ s .«delta_t» ∷ flagOf (s .«use_byte») ∷ t .frames ∷ flat wordsOf (t .table);
     }
-
-unfoldable pub thawTracker : TrackerImage → Tracker
-thawTracker i = record {
-  settings = record {
-    «det_thresh» = i .«det_thresh»;
-    «iou_threshold» = i .«iou_threshold»;
-    inertia = i .inertia;
-    «max_age» = i .«max_age»;
-    «min_hits» = i .«min_hits»;
-    «delta_t» = i .«delta_t»;
-    «use_byte» = isSet (i .«use_byte»);
-  };
-  frames = i .frames;
-  issued = i .issued;
-  count = i .count;
-  table = map thawTrack (i .tracks);
-}
 
 -- use_byte means something, and so does each of the first `count` tracks
 unfoldable pub meant : TrackerImage → Bool
-meant i = tagged (i .«use_byte») && every meantTrack (take (i .count) (i .tracks))
+meant i = tagged (byteIn i) && every meantTrack (take (countIn i) (cells i))
+
+-- the lists have the lengths of their types
+pub record Whole (i : TrackerImage) : Type 0 where
+  pub wide : length (i .wide) ≡ 66
+  pub floats : length (i .floats) ≡ 10435
+  pub words : length (i .words) ≡ 965
+
+-- ---- writing
+
+-- i′ is i with this track in cell k, whose numbers fill it
+pub record Put (k : ℕ) (e : Tracked) (i i′ : TrackerImage) : Type 0 where
+  pub wide : i′ .wide ≡ set (i .wide) (2 + k) (idOf e)
+  pub floats : i′ .floats ≡ sets (i .floats) (3 + 163 * k) (floatsOf e)
+  pub words : i′ .words ≡ sets (i .words) (5 + 15 * k) (wordsOf e)
+  pub full : (length (floatsOf e) ≡ 163) × (length (wordsOf e) ≡ 15)
+
+-- i′ is i with zeros in the cells from k on
+pub record Cleared (k : ℕ) (i i′ : TrackerImage) : Type 0 where
+  pub wide : i′ .wide ≡ sets (i .wide) (2 + k) (replicate (64 - k) 0)
+  pub floats : i′ .floats ≡ sets (i .floats) (3 + 163 * k) (replicate (163 * (64 - k)) f0)
+  pub words : i′ .words ≡ sets (i .words) (5 + 15 * k) (replicate (15 * (64 - k)) 0)
 
 -- ---- an image is faithful
 
 -- converted there and back a state is itself, and its image means something
-pub record Faithful : Type 0 where
-  pub back : (t : Tracker) → thawTracker (freezeTracker t) ≡ t
-  pub means : (t : Tracker) → meant (freezeTracker t) ≡ true
+pub record Faithful (t : Tracker) : Type 0 where
+  pub back : thawTracker (freezeTracker t) ≡ t
+  pub means : meant (freezeTracker t) ≡ true

@@ -1,4 +1,4 @@
-// The state as C and Rust pass it, without enums and bools, and the conversions both ways.
+// The state as C and Rust pass it, without enums and bools: three lists of numbers, one for each type, and the conversions both ways. A list is lent and each track read and written alone, so no call copies the whole.
 use frame::Settings;
 use frame::Tracked;
 use frame::Tracker;
@@ -10,73 +10,21 @@ use strack::LastBox;
 use strack::ListBox;
 use strack::Track;
 ghost use mathlib.Core.Path.{_≡_};
-ghost use Prim.Native.Nat.{_<_};
-ghost use mathlib.Core.List.{map};
-ghost use Rattle.lists.specs.Lists.{every};
-ghost use Rattle.image.specs.Image.{flagOf, isSet, tagged, freezeBox, thawBox, freezeList, thawList, freezeDirection, thawDirection, freezeKept, thawKept, freezeTrack, thawTrack, freezeTracker, thawTracker, meantKept, meantTrack, meant, Faithful};
+ghost use Prim.Native.Nat.{_+_, _*_, _≤_, _<_};
+ghost use mathlib.Core.List.{[], _∷_, map};
+ghost use lib.Seq.{sets};
+ghost use Rattle.lists.specs.Lists.{flat};
+ghost use Rattle.image.specs.Image.{flagOf, isSet, tagged, filterFloats, filterAt, boxTag, boxFloats, boxAt, listTag, listFloats, listAt, directionTag, directionFloats, directionAt, keptTag, keptFloats, keptAt, thawTrack, meantTrack, imageOf, cellAt, thawTracker, freezeTracker, meant, Whole, Put, Cleared, Faithful};
 
-// In each image the wide fields stand first and the rest is 4 bytes wide: no padding.
-
-// A tag `is` is 0 where there is none, 1 where there is one; other tags mean nothing.
-#[repr(C)]
-pub struct BoxImage {
-    pub is: u32,
-    pub x1: f32,
-    pub y1: f32,
-    pub x2: f32,
-    pub y2: f32,
-    pub score: f32,
-}
-
-#[repr(C)]
-pub struct ListImage {
-    pub is: u32,
-    pub x: f32,
-    pub y: f32,
-    pub s: f32,
-    pub r: f32,
-}
-
-#[repr(C)]
-pub struct DirectionImage {
-    pub is: u32,
-    pub dy: f32,
-    pub dx: f32,
-}
-
-// A track beside its id, in 720 bytes.
-#[repr(C)]
-pub struct TrackImage {
-    pub id: u64,
-    pub filter: Filter,
-    pub saved: Filter,
-    pub frozen: u32,
-    pub age: u32,
-    pub streak: u32,
-    pub since: u32,
-    pub last: BoxImage,
-    pub list: ListImage,
-    pub direction: DirectionImage,
-    pub kept: [BoxImage; 8],
-}
-
-// The whole state, in 46,128 bytes.
+// The whole state, in 46,128 bytes without padding. What stands where: specs/Image.antt.
 #[repr(C)]
 pub struct TrackerImage {
-    pub issued: u64,
-    pub count: usize,
-    pub det_thresh: f32,
-    pub iou_threshold: f32,
-    pub inertia: f32,
-    pub max_age: u32,
-    pub min_hits: u32,
-    pub delta_t: u32,
-    pub use_byte: u32,
-    pub frames: u32,
-    pub tracks: [TrackImage; 64],
+    pub wide: [u64; 66],
+    pub floats: [f32; 10435],
+    pub words: [u32; 965],
 }
 
-// ---- flags and tags
+// ---- flags and tags: a tag is 0 where there is none, 1 where there is one; others mean nothing
 
 pub fn flag(b: bool) -> u32
     ensures { λ r. ⌜ r ≡ flagOf b ⌝ }
@@ -96,245 +44,338 @@ pub fn is_tag(n: u32) -> bool
     n <= 1
 }
 
-// ---- boxes and directions
+// ---- a track read
 
-fn freeze_box(b: LastBox) -> BoxImage
-    ensures { λ r. ⌜ r ≡ freezeBox b ⌝ }
+fn filter_at(floats: &[f32; 10435], at: usize) -> Filter
+    requires { ⌜ at + 56 ≤ 10435 ⌝ }
+    ensures { λ r. ⌜ r ≡ filterAt (now (floats .entry)) at ⌝ }
 {
-    match b {
-        LastBox::Unseen => BoxImage {
-            is: 0,
-            x1: 0.0,
-            y1: 0.0,
-            x2: 0.0,
-            y2: 0.0,
-            score: 0.0,
-        },
-        LastBox::Seen(x1, y1, x2, y2, score) => BoxImage {
-            is: 1,
-            x1,
-            y1,
-            x2,
-            y2,
-            score,
-        },
+    let mut x = [0.0; 7];
+    let mut j = 0usize;
+    while j < 7 {
+        x[j] = floats[at + j];
+        j += 1;
     }
+    let mut p = [0.0; 49];
+    let mut k = 0usize;
+    while k < 49 {
+        p[k] = floats[at + 7 + k];
+        k += 1;
+    }
+    Filter { x, p }
 }
 
-fn thaw_box(b: BoxImage) -> LastBox
-    ensures { λ r. ⌜ r ≡ thawBox b ⌝ }
+fn box_at(tag: u32, floats: &[f32; 10435], at: usize) -> LastBox
+    requires { ⌜ at + 5 ≤ 10435 ⌝ }
+    ensures { λ r. ⌜ r ≡ boxAt tag (now (floats .entry)) at ⌝ }
 {
-    if b.is == 0 {
+    if tag == 0 {
         LastBox::Unseen
     } else {
-        LastBox::Seen(b.x1, b.y1, b.x2, b.y2, b.score)
+        LastBox::Seen(
+            floats[at],
+            floats[at + 1],
+            floats[at + 2],
+            floats[at + 3],
+            floats[at + 4],
+        )
     }
 }
 
-fn freeze_list(b: ListBox) -> ListImage
-    ensures { λ r. ⌜ r ≡ freezeList b ⌝ }
+fn list_at(tag: u32, floats: &[f32; 10435], at: usize) -> ListBox
+    requires { ⌜ at + 4 ≤ 10435 ⌝ }
+    ensures { λ r. ⌜ r ≡ listAt tag (now (floats .entry)) at ⌝ }
 {
-    match b {
-        ListBox::Empty => ListImage {
-            is: 0,
-            x: 0.0,
-            y: 0.0,
-            s: 0.0,
-            r: 0.0,
-        },
-        ListBox::Holds(z) => ListImage {
-            is: 1,
-            x: z.x,
-            y: z.y,
-            s: z.s,
-            r: z.r,
-        },
-    }
-}
-
-fn thaw_list(b: ListImage) -> ListBox
-    ensures { λ r. ⌜ r ≡ thawList b ⌝ }
-{
-    let z = DetectBox {
-        x: b.x,
-        y: b.y,
-        s: b.s,
-        r: b.r,
-    };
-    if b.is == 0 {
+    if tag == 0 {
         ListBox::Empty
     } else {
+        let z = DetectBox {
+            x: floats[at],
+            y: floats[at + 1],
+            s: floats[at + 2],
+            r: floats[at + 3],
+        };
         ListBox::Holds(z)
     }
 }
 
-fn freeze_direction(d: Direction) -> DirectionImage
-    ensures { λ r. ⌜ r ≡ freezeDirection d ⌝ }
+fn direction_at(tag: u32, floats: &[f32; 10435], at: usize) -> Direction
+    requires { ⌜ at + 2 ≤ 10435 ⌝ }
+    ensures { λ r. ⌜ r ≡ directionAt tag (now (floats .entry)) at ⌝ }
 {
-    match d {
-        Direction::Unknown => DirectionImage {
-            is: 0,
-            dy: 0.0,
-            dx: 0.0,
-        },
-        Direction::Known(dy, dx) => DirectionImage { is: 1, dy, dx },
-    }
-}
-
-fn thaw_direction(d: DirectionImage) -> Direction
-    ensures { λ r. ⌜ r ≡ thawDirection d ⌝ }
-{
-    if d.is == 0 {
+    if tag == 0 {
         Direction::Unknown
     } else {
-        Direction::Known(d.dy, d.dx)
+        Direction::Known(floats[at], floats[at + 1])
     }
 }
 
-// ---- the eight kept boxes
-
-fn freeze_kept(kept: [Kept; 8]) -> [BoxImage; 8]
-    ensures { λ r. ⌜ r ≡ map freezeKept kept ⌝ }
-{
-    let none = freeze_box(LastBox::Unseen);
-    let mut out = [none; 8];
-    let mut k = 0usize;
-    while k < 8 {
-        let one = kept[k];
-        let at = one.at;
-        let image = freeze_box(at);
-        out[k] = image;
-        k += 1;
-    }
-    out
-}
-
-fn thaw_kept(kept: [BoxImage; 8]) -> [Kept; 8]
-    ensures { λ r. ⌜ r ≡ map thawKept kept ⌝ }
+// The eight kept boxes, whose numbers start at f and whose tags start at w.
+fn kept_at(floats: &[f32; 10435], words: &[u32; 965], f: usize, w: usize) -> [Kept; 8]
+    requires { ⌜ (f + 40 ≤ 10435) × (w + 8 ≤ 965) ⌝ }
+    ensures { λ r. ⌜ r ≡ keptAt (now (words .entry)) w (now (floats .entry)) f ⌝ }
 {
     let none = Kept {
         at: LastBox::Unseen,
     };
     let mut out = [none; 8];
-    let mut k = 0usize;
-    while k < 8 {
-        let image = kept[k];
-        let at = thaw_box(image);
-        out[k] = Kept { at };
-        k += 1;
+    let mut j = 0usize;
+    while j < 8 {
+        let at = box_at(words[w + j], floats, f + 5 * j);
+        out[j] = Kept { at };
+        j += 1;
     }
     out
 }
 
-// Whether each of the eight tags means something.
-fn is_meant_kept(kept: [BoxImage; 8]) -> bool
-    ensures { λ r. ⌜ r ≡ every meantKept kept ⌝ }
+pub fn track_at(wide: &[u64; 66], floats: &[f32; 10435], words: &[u32; 965], k: usize) -> Tracked
+    requires { ⌜ k < 64 ⌝ }
+    ensures { λ r. ⌜ r ≡ thawTrack (cellAt (imageOf (now (wide .entry)) (now (floats .entry)) (now (words .entry))) k) ⌝ }
 {
-    let mut ok = true;
-    let mut k = 0usize;
-    while k < 8 {
-        let image = kept[k];
-        ok = ok & is_tag(image.is);
-        k += 1;
+    let f = 3 + 163 * k;
+    let w = 5 + 15 * k;
+    let track = Track {
+        filter: filter_at(floats, f),
+        saved: filter_at(floats, f + 56),
+        frozen: is_set(words[w]),
+        age: words[w + 1],
+        streak: words[w + 2],
+        since: words[w + 3],
+        last: box_at(words[w + 4], floats, f + 112),
+        list: list_at(words[w + 5], floats, f + 117),
+        direction: direction_at(words[w + 6], floats, f + 121),
+        kept: kept_at(floats, words, f + 123, w + 7),
+    };
+    Tracked {
+        id: wide[2 + k],
+        track,
+    }
+}
+
+// Whether all tags of track k mean something.
+pub fn is_meant_at(wide: &[u64; 66], floats: &[f32; 10435], words: &[u32; 965], k: usize) -> bool
+    requires { ⌜ k < 64 ⌝ }
+    ensures { λ r. ⌜ r ≡ meantTrack (cellAt (imageOf (now (wide .entry)) (now (floats .entry)) (now (words .entry))) k) ⌝ }
+{
+    let w = 5 + 15 * k;
+    let mut ok = is_tag(words[w]);
+    let mut j = 4usize;
+    while j < 15 {
+        ok = ok & is_tag(words[w + j]);
+        j += 1;
     }
     ok
 }
 
-// ---- a track
+// ---- a track written
 
-pub fn freeze_track(e: Tracked) -> TrackImage
-    ensures { λ r. ⌜ r ≡ freezeTrack e ⌝ }
+fn put_filter(floats: &mut [f32; 10435], at: usize, f: Filter)
+    requires { ⌜ at + 56 ≤ 10435 ⌝ }
+    ensures { λ _. ⌜ now (floats .exit) ≡ sets (now (floats .entry)) at (filterFloats f) ⌝ }
 {
+    let mut j = 0usize;
+    while j < 7 {
+        floats[at + j] = f.x[j];
+        j += 1;
+    }
+    let mut k = 0usize;
+    while k < 49 {
+        floats[at + 7 + k] = f.p[k];
+        k += 1;
+    }
+}
+
+fn put_five(floats: &mut [f32; 10435], at: usize, x1: f32, y1: f32, x2: f32, y2: f32, score: f32)
+    requires { ⌜ at + 5 ≤ 10435 ⌝ }
+    ensures { λ _. ⌜ now (floats .exit) ≡ sets (now (floats .entry)) at (x1 ∷ y1 ∷ x2 ∷ y2 ∷ score ∷ []) ⌝ }
+{
+    floats[at] = x1;
+    floats[at + 1] = y1;
+    floats[at + 2] = x2;
+    floats[at + 3] = y2;
+    floats[at + 4] = score;
+}
+
+// Writes a box's numbers, and returns its tag.
+fn put_box(floats: &mut [f32; 10435], at: usize, b: LastBox) -> u32
+    requires { ⌜ at + 5 ≤ 10435 ⌝ }
+    ensures { λ r. ⌜ (r ≡ boxTag b) × (now (floats .exit) ≡ sets (now (floats .entry)) at (boxFloats b)) ⌝ }
+{
+    match b {
+        LastBox::Unseen => {
+            put_five(floats, at, 0.0, 0.0, 0.0, 0.0, 0.0);
+            0
+        }
+        LastBox::Seen(x1, y1, x2, y2, score) => {
+            put_five(floats, at, x1, y1, x2, y2, score);
+            1
+        }
+    }
+}
+
+fn put_four(floats: &mut [f32; 10435], at: usize, x: f32, y: f32, s: f32, r: f32)
+    requires { ⌜ at + 4 ≤ 10435 ⌝ }
+    ensures { λ _. ⌜ now (floats .exit) ≡ sets (now (floats .entry)) at (x ∷ y ∷ s ∷ r ∷ []) ⌝ }
+{
+    floats[at] = x;
+    floats[at + 1] = y;
+    floats[at + 2] = s;
+    floats[at + 3] = r;
+}
+
+fn put_list(floats: &mut [f32; 10435], at: usize, b: ListBox) -> u32
+    requires { ⌜ at + 4 ≤ 10435 ⌝ }
+    ensures { λ r. ⌜ (r ≡ listTag b) × (now (floats .exit) ≡ sets (now (floats .entry)) at (listFloats b)) ⌝ }
+{
+    match b {
+        ListBox::Empty => {
+            put_four(floats, at, 0.0, 0.0, 0.0, 0.0);
+            0
+        }
+        ListBox::Holds(z) => {
+            put_four(floats, at, z.x, z.y, z.s, z.r);
+            1
+        }
+    }
+}
+
+fn put_two(floats: &mut [f32; 10435], at: usize, dy: f32, dx: f32)
+    requires { ⌜ at + 2 ≤ 10435 ⌝ }
+    ensures { λ _. ⌜ now (floats .exit) ≡ sets (now (floats .entry)) at (dy ∷ dx ∷ []) ⌝ }
+{
+    floats[at] = dy;
+    floats[at + 1] = dx;
+}
+
+fn put_direction(floats: &mut [f32; 10435], at: usize, d: Direction) -> u32
+    requires { ⌜ at + 2 ≤ 10435 ⌝ }
+    ensures { λ r. ⌜ (r ≡ directionTag d) × (now (floats .exit) ≡ sets (now (floats .entry)) at (directionFloats d)) ⌝ }
+{
+    match d {
+        Direction::Unknown => {
+            put_two(floats, at, 0.0, 0.0);
+            0
+        }
+        Direction::Known(dy, dx) => {
+            put_two(floats, at, dy, dx);
+            1
+        }
+    }
+}
+
+fn put_kept(floats: &mut [f32; 10435], words: &mut [u32; 965], f: usize, w: usize, t: Track)
+    requires { ⌜ (f + 40 ≤ 10435) × (w + 8 ≤ 965) ⌝ }
+    ensures { λ _. ⌜ (now (floats .exit) ≡ sets (now (floats .entry)) f (flat keptFloats (t .kept))) × (now (words .exit) ≡ sets (now (words .entry)) w (map keptTag (t .kept))) ⌝ }
+{
+    let mut j = 0usize;
+    while j < 8 {
+        let one = t.kept[j];
+        let at = one.at;
+        words[w + j] = put_box(floats, f + 5 * j, at);
+        j += 1;
+    }
+}
+
+pub fn put_track(
+    wide: &mut [u64; 66],
+    floats: &mut [f32; 10435],
+    words: &mut [u32; 965],
+    k: usize,
+    e: Tracked,
+)
+    requires { ⌜ k < 64 ⌝ }
+    ensures { λ _. ⌜ Put k e (imageOf (now (wide .entry)) (now (floats .entry)) (now (words .entry))) (imageOf (now (wide .exit)) (now (floats .exit)) (now (words .exit))) ⌝ }
+{
+    let f = 3 + 163 * k;
+    let w = 5 + 15 * k;
     let t = e.track;
     let filter = t.filter;
     let saved = t.saved;
     let last = t.last;
     let list = t.list;
     let direction = t.direction;
-    let kept = t.kept;
-    TrackImage {
-        id: e.id,
-        filter,
-        saved,
-        frozen: flag(t.frozen),
-        age: t.age,
-        streak: t.streak,
-        since: t.since,
-        last: freeze_box(last),
-        list: freeze_list(list),
-        direction: freeze_direction(direction),
-        kept: freeze_kept(kept),
+    wide[2 + k] = e.id;
+    put_filter(floats, f, filter);
+    put_filter(floats, f + 56, saved);
+    words[w] = flag(t.frozen);
+    words[w + 1] = t.age;
+    words[w + 2] = t.streak;
+    words[w + 3] = t.since;
+    words[w + 4] = put_box(floats, f + 112, last);
+    words[w + 5] = put_list(floats, f + 117, list);
+    words[w + 6] = put_direction(floats, f + 121, direction);
+    put_kept(floats, words, f + 123, w + 7, t);
+}
+
+// Zeros in the cells from k on: three runs, which compile to one memset each.
+pub fn clear_from(wide: &mut [u64; 66], floats: &mut [f32; 10435], words: &mut [u32; 965], k: usize)
+    requires { ⌜ k ≤ 64 ⌝ }
+    ensures { λ _. ⌜ Cleared k (imageOf (now (wide .entry)) (now (floats .entry)) (now (words .entry))) (imageOf (now (wide .exit)) (now (floats .exit)) (now (words .exit))) ⌝ }
+{
+    let mut a = 2 + k;
+    while a < 66 {
+        wide[a] = 0;
+        a += 1;
+    }
+    let mut b = 3 + 163 * k;
+    while b < 10435 {
+        floats[b] = 0.0;
+        b += 1;
+    }
+    let mut c = 5 + 15 * k;
+    while c < 965 {
+        words[c] = 0;
+        c += 1;
     }
 }
 
-pub fn thaw_track(i: TrackImage) -> Tracked
-    ensures { λ r. ⌜ r ≡ thawTrack i ⌝ }
-{
-    let filter = i.filter;
-    let saved = i.saved;
-    let last = i.last;
-    let list = i.list;
-    let direction = i.direction;
-    let kept = i.kept;
-    let track = Track {
-        filter,
-        saved,
-        frozen: is_set(i.frozen),
-        age: i.age,
-        streak: i.streak,
-        since: i.since,
-        last: thaw_box(last),
-        list: thaw_list(list),
-        direction: thaw_direction(direction),
-        kept: thaw_kept(kept),
-    };
-    Tracked { id: i.id, track }
-}
-
-pub fn is_meant_track(i: TrackImage) -> bool
-    ensures { λ r. ⌜ r ≡ meantTrack i ⌝ }
-{
-    let last = i.last;
-    let list = i.list;
-    let direction = i.direction;
-    let kept = i.kept;
-    is_tag(i.frozen)
-        & is_tag(last.is)
-        & is_tag(list.is)
-        & is_tag(direction.is)
-        & is_meant_kept(kept)
-}
-
 // ---- the tracker
+
+// Does nothing, and ensures that the lists have the lengths of their types: a list as a slice tells its length.
+pub fn lengths(wide: &[u64; 66], floats: &[f32; 10435], words: &[u32; 965])
+    ensures { λ _. ⌜ Whole (imageOf (now (wide .entry)) (now (floats .entry)) (now (words .entry))) ⌝ }
+{
+    let w: &[u64] = wide;
+    let f: &[f32] = floats;
+    let n: &[u32] = words;
+}
+
+// Writes the image of a state over whatever the lists held.
+pub fn put(wide: &mut [u64; 66], floats: &mut [f32; 10435], words: &mut [u32; 965], t: Tracker)
+    ensures { λ _. ⌜ imageOf (now (wide .exit)) (now (floats .exit)) (now (words .exit)) ≡ freezeTracker t ⌝ }
+{
+    lengths(wide, floats, words);
+    let s = t.settings;
+    wide[0] = t.issued;
+    wide[1] = t.count as u64;
+    floats[0] = s.det_thresh;
+    floats[1] = s.iou_threshold;
+    floats[2] = s.inertia;
+    words[0] = s.max_age;
+    words[1] = s.min_hits;
+    words[2] = s.delta_t;
+    words[3] = flag(s.use_byte);
+    words[4] = t.frames;
+    let mut k = 0usize;
+    while k < 64 {
+        let e = t.table[k];
+        put_track(wide, floats, words, k, e);
+        k += 1;
+    }
+}
 
 // The image of a state.
 pub fn freeze(t: Tracker) -> TrackerImage
     ensures { λ r. ⌜ r ≡ freezeTracker t ⌝ }
 {
-    let s = t.settings;
-    // the first track's image, until each cell has its own
-    let first = t.table[0];
-    let filler = freeze_track(first);
-    let mut tracks = [filler; 64];
-    let mut k = 0usize;
-    while k < 64 {
-        let one = t.table[k];
-        let image = freeze_track(one);
-        tracks[k] = image;
-        k += 1;
-    }
+    let mut wide = [0; 66];
+    let mut floats = [0.0; 10435];
+    let mut words = [0; 965];
+    put(&mut wide, &mut floats, &mut words, t);
     TrackerImage {
-        issued: t.issued,
-        count: t.count,
-        det_thresh: s.det_thresh,
-        iou_threshold: s.iou_threshold,
-        inertia: s.inertia,
-        max_age: s.max_age,
-        min_hits: s.min_hits,
-        delta_t: s.delta_t,
-        use_byte: flag(s.use_byte),
-        frames: t.frames,
-        tracks,
+        wide,
+        floats,
+        words,
     }
 }
 
@@ -342,31 +383,32 @@ pub fn freeze(t: Tracker) -> TrackerImage
 pub fn thaw(i: TrackerImage) -> Tracker
     ensures { λ r. ⌜ r ≡ thawTracker i ⌝ }
 {
+    let wide = i.wide;
+    let floats = i.floats;
+    let words = i.words;
     // the first track, until each cell has its own
-    let first = i.tracks[0];
-    let filler = thaw_track(first);
+    let filler = track_at(&wide, &floats, &words, 0);
     let mut table = [filler; 64];
     let mut k = 0usize;
     while k < 64 {
-        let image = i.tracks[k];
-        let one = thaw_track(image);
-        table[k] = one;
+        let e = track_at(&wide, &floats, &words, k);
+        table[k] = e;
         k += 1;
     }
     let settings = Settings {
-        det_thresh: i.det_thresh,
-        iou_threshold: i.iou_threshold,
-        inertia: i.inertia,
-        max_age: i.max_age,
-        min_hits: i.min_hits,
-        delta_t: i.delta_t,
-        use_byte: is_set(i.use_byte),
+        det_thresh: floats[0],
+        iou_threshold: floats[1],
+        inertia: floats[2],
+        max_age: words[0],
+        min_hits: words[1],
+        delta_t: words[2],
+        use_byte: is_set(words[3]),
     };
     Tracker {
         settings,
-        frames: i.frames,
-        issued: i.issued,
-        count: i.count,
+        frames: words[4],
+        issued: wide[0],
+        count: wide[1] as usize,
         table,
     }
 }
@@ -375,21 +417,23 @@ pub fn thaw(i: TrackerImage) -> Tracker
 pub fn is_meant(i: TrackerImage) -> bool
     ensures { λ r. ⌜ r ≡ meant i ⌝ }
 {
-    let mut ok = is_tag(i.use_byte);
-    let count = i.count;
+    let wide = i.wide;
+    let floats = i.floats;
+    let words = i.words;
+    let mut ok = is_tag(words[3]);
+    let count = wide[1];
     let mut k = 0usize;
     while k < 64 {
-        if count <= k {
+        if count <= k as u64 {
             return ok;
         }
-        let image = i.tracks[k];
-        ok = ok & is_meant_track(image);
+        ok = ok & is_meant_at(&wide, &floats, &words, k);
         k += 1;
     }
     ok
 }
 
-// Does nothing, and ensures that an image is faithful.
-pub fn faithful()
-    ensures { λ r. ⌜ Faithful ⌝ }
+// Does nothing, and ensures that the image of a state is faithful.
+pub fn faithful(t: Tracker)
+    ensures { λ r. ⌜ Faithful t ⌝ }
 {}

@@ -1,10 +1,12 @@
 -- `image::faithful` meets its contract. Assumes nothing.
+use Rattle.frame.proofs.Known.{tracker-long}
 use Rattle.image.proofs.Back.{faithful}
+use Rattle.image.proofs.Known.{all-full, all-shaped}
 use Rattle.image.proofs.faithful.Statement.{statement}
 use Rattle.image.proofs.faithful.Tie as tie
 
 returns : tie.Need-returns
-returns c = faithful
+returns c = let t = c .args .t in faithful t (tracker-long t _ (c .good .0)) (all-full t _ (c .good .0)) (all-shaped t _ (c .good .0))
 
 pub faithful-spec : {M : Type 1} → statement M
 faithful-spec = tie.close (tie.spec returns)
