@@ -1,13 +1,42 @@
-// The lines that ask for a step of the Kalman filter. A number's word and its blank are 9 bytes.
+// The lines that ask for a step of the Kalman filter: `predict`, `update` and `replay`, with no box, one and two before the filter.
+// A number's word and its blank are 9 bytes.
+ghost use Prim.Native.Nat.{_≤_};
 use crate::Answer;
 use kalman_filter::DetectBox;
 use kalman_filter::Filter;
+use protocol::Word;
 
-// Whether so many good numbers stand behind the blank at `at`.
-fn has(line: &[u8], at: usize, n: usize) -> bool {
-    let mut first = [0.0f32; 1];
-    let c = protocol::read_f32s(line, at, &mut first);
-    c.good && c.n == n
+// What a line gives: the boxes of its first eight numbers, and the filter behind so many boxes.
+struct Given {
+    good: bool,
+    first: DetectBox,
+    second: DetectBox,
+    filter: Filter,
+}
+
+// The numbers behind the blank at `at`.
+fn read(line: &[u8], at: usize, boxes: usize) -> Given
+    requires { ⌜ boxes ≤ 2 ⌝ }
+{
+    let mut v = [0.0f32; 8];
+    let c = protocol::read_f32s(line, at, &mut v);
+    let filter = filter_at(line, std::num::wrapping_add_usize(at, 36 * boxes));
+    Given {
+        good: c.good & (c.n == 56 + 4 * boxes),
+        first: DetectBox {
+            x: v[0],
+            y: v[1],
+            s: v[2],
+            r: v[3],
+        },
+        second: DetectBox {
+            x: v[4],
+            y: v[5],
+            s: v[6],
+            r: v[7],
+        },
+        filter,
+    }
 }
 
 // The filter behind the blank at `at`: its state, then its covariance.
@@ -19,63 +48,58 @@ fn filter_at(line: &[u8], at: usize) -> Filter {
     Filter { x, p }
 }
 
-// The measured box behind the blank at `at`.
-fn box_at(line: &[u8], at: usize) -> DetectBox {
-    let mut v = [0.0f32; 4];
-    protocol::read_f32s(line, at, &mut v);
-    DetectBox {
-        x: v[0],
-        y: v[1],
-        s: v[2],
-        r: v[3],
+// The gap, of `replay` alone, and where the numbers stand.
+fn gap_of(line: &[u8], boxes: usize) -> Word {
+    match boxes {
+        0 => Word {
+            good: true,
+            value: 2,
+            end: 7,
+        },
+        1 => Word {
+            good: true,
+            value: 2,
+            end: 6,
+        },
+        _ => protocol::whole_word(line, 6),
     }
+}
+
+fn step(g: Given, boxes: usize, gap: usize) -> Filter
+    requires { ⌜ gap ≤ 1000000 ⌝ }
+{
+    let f = g.filter;
+    let a = g.first;
+    let b = g.second;
+    match boxes {
+        0 => kalman_filter::predict(f),
+        1 => kalman_filter::update(f, a),
+        _ => kalman_filter::replay(f, a, b, gap as u32),
+    }
+}
+
+fn put_line(out: &mut [u8], at: usize, name: u8, numbers: &[f32]) -> usize {
+    let p = protocol::put(out, at, name);
+    let p = protocol::put_f32s(out, p, numbers);
+    protocol::put(out, p, b'\n')
 }
 
 fn put_filter(out: &mut [u8], at: usize, f: Filter) -> Answer {
     let x = f.x;
     let p = f.p;
-    let q = protocol::put(out, at, b'x');
-    let q = protocol::put_f32s(out, q, &x);
-    let q = protocol::put_text(out, q, b"\np");
-    let q = protocol::put_f32s(out, q, &p);
-    Answer::Ends(protocol::put(out, q, b'\n'))
+    let q = put_line(out, at, b'x', &x);
+    Answer::Ends(put_line(out, q, b'p', &p))
 }
 
-// `predict` and a filter.
-pub fn predict(line: &[u8], out: &mut [u8], at: usize) -> Answer {
-    if !has(line, 7, 56) {
-        return Answer::Bad;
+// A gap is from 2 to a million frames.
+pub fn answer(line: &[u8], out: &mut [u8], at: usize, boxes: usize) -> Answer
+    requires { ⌜ boxes ≤ 2 ⌝ }
+{
+    let w = gap_of(line, boxes);
+    let gap = crate::within(w.value, 1000000);
+    let g = read(line, w.end, boxes);
+    if w.good & (1 < gap) & (w.value == gap as u64) & g.good {
+        return put_filter(out, at, step(g, boxes, gap));
     }
-    put_filter(out, at, kalman_filter::predict(filter_at(line, 7)))
-}
-
-// `update`, a measured box and a filter.
-pub fn update(line: &[u8], out: &mut [u8], at: usize) -> Answer {
-    if !has(line, 6, 60) {
-        return Answer::Bad;
-    }
-    let z = box_at(line, 6);
-    put_filter(out, at, kalman_filter::update(filter_at(line, 42), z))
-}
-
-// `replay`, the gap, the list's box, the box that ends the gap, and the saved filter.
-pub fn replay(line: &[u8], out: &mut [u8], at: usize) -> Answer {
-    let gap = protocol::whole_word(line, 6);
-    if !gap.good {
-        return Answer::Bad;
-    }
-    if !has(line, gap.end, 64) {
-        return Answer::Bad;
-    }
-    let frames = protocol::low(gap.value);
-    if frames < 2 {
-        return Answer::Bad;
-    }
-    if 1000000 < frames {
-        return Answer::Bad;
-    }
-    let from = box_at(line, gap.end);
-    let to = box_at(line, std::num::wrapping_add_usize(gap.end, 36));
-    let saved = filter_at(line, std::num::wrapping_add_usize(gap.end, 72));
-    put_filter(out, at, kalman_filter::replay(saved, from, to, frames))
+    Answer::Bad
 }

@@ -1,10 +1,12 @@
-// Answers to the comparison's lines that need no tracker: one function for each kind of line.
+// Answers to the comparison's lines that need no tracker.
 mod assign;
 mod associate;
-mod boxes;
 mod filter;
-mod floats;
-mod matrices;
+mod mark_lines;
+mod product;
+mod row;
+
+ghost use Prim.Native.Nat.{_≤_};
 
 // Where the answer ends, or why there is none.
 pub enum Answer {
@@ -17,55 +19,53 @@ pub enum Answer {
 
 // Puts the answer to a line.
 pub fn by_word(line: &[u8], out: &mut [u8], at: usize) -> Answer {
-    if protocol::is_word(line, b"product") {
-        return matrices::product(line, out, at);
+    let word = protocol::which(
+        line,
+        b"predict update replay lap assoc product widen sqrt acos clamp max min measure box dir iou inverse",
+    );
+    match word {
+        0..=2 => filter::answer(line, out, at, word),
+        3 => assign::answer(line, out, at),
+        4 => associate::answer(line, out, at),
+        5 => product::answer(line, out, at),
+        6 => row::widen(line, out, at),
+        7..=16 => row::answer(line, out, at, word),
+        _ => Answer::Other,
     }
-    if protocol::is_word(line, b"inverse") {
-        return matrices::inverse(line, out, at);
-    }
-    if protocol::is_word(line, b"lap") {
-        return assign::lap(line, out, at);
-    }
-    if protocol::is_word(line, b"assoc") {
-        return associate::associate(line, out, at);
-    }
-    if protocol::is_word(line, b"predict") {
-        return filter::predict(line, out, at);
-    }
-    if protocol::is_word(line, b"update") {
-        return filter::update(line, out, at);
-    }
-    if protocol::is_word(line, b"replay") {
-        return filter::replay(line, out, at);
-    }
-    two_boxes(line, out, at)
 }
 
-// The lines on boxes, and behind them those on single numbers.
-fn two_boxes(line: &[u8], out: &mut [u8], at: usize) -> Answer {
-    if protocol::is_word(line, b"measure") {
-        return boxes::measure(line, out, at);
+// n, at most so many.
+fn within(n: u64, most: usize) -> usize
+    ensures { λ r. ⌜ r ≤ most ⌝ }
+{
+    if n <= most as u64 { n as usize } else { most }
+}
+
+// Three whole numbers that were read, and where they end.
+struct Wholes {
+    good: bool,
+    a: u64,
+    b: u64,
+    c: u64,
+    end: usize,
+}
+
+// The whole numbers behind the blank at `at`.
+fn three(line: &[u8], at: usize) -> Wholes {
+    let a = protocol::whole_word(line, at);
+    let b = protocol::whole_word(line, a.end);
+    let c = protocol::whole_word(line, b.end);
+    Wholes {
+        good: a.good & b.good & c.good,
+        a: a.value,
+        b: b.value,
+        c: c.value,
+        end: c.end,
     }
-    if protocol::is_word(line, b"box") {
-        return boxes::convert(line, out, at);
-    }
-    if protocol::is_word(line, b"dir") {
-        return boxes::direction(line, out, at);
-    }
-    if protocol::is_word(line, b"iou") {
-        return boxes::overlap(line, out, at);
-    }
-    floats::answer(line, out, at)
 }
 
 // An answer of the first so many numbers.
 fn put_numbers(out: &mut [u8], at: usize, numbers: &[f32], count: usize) -> Answer {
     let p = protocol::put_row(out, at, numbers, count);
-    Answer::Ends(protocol::put(out, p, b'\n'))
-}
-
-// An answer of one number.
-fn put_number(out: &mut [u8], at: usize, x: f32) -> Answer {
-    let p = protocol::put_f32(out, at, x);
     Answer::Ends(protocol::put(out, p, b'\n'))
 }

@@ -30,14 +30,6 @@ pub fn is_end(line: &[u8], at: usize) -> bool {
     }
 }
 
-fn bad() -> Word {
-    Word {
-        good: false,
-        value: 0,
-        end: 0,
-    }
-}
-
 // The value of an upper-case hexadecimal digit, 16 for any other byte.
 pub fn hex_value(b: u8) -> u64
     ensures { λ r. ⌜ r ≤ 16 ⌝ }
@@ -57,52 +49,48 @@ pub fn hex_value(b: u8) -> u64
     16
 }
 
-// The hexadecimal word of so many digits behind the blank at `at`.
-pub fn hex_word(line: &[u8], at: usize, digits: usize) -> Word {
-    if byte_at(line, at) != b' ' {
-        return bad();
+// A word with one more digit of that base, and the place behind it; as it is where d is no such digit.
+fn with_digit(w: Word, d: u64, base: u64, end: usize) -> Word
+    requires { ⌜ base ≤ 16 ⌝ }
+{
+    let mut n = w;
+    if d < base {
+        n.value = w.value % 0x1000_0000_0000_0000 * base + d;
+        n.end = end;
     }
-    let mut p = next(line, at);
-    let mut value: u64 = 0;
-    let mut left = digits;
+    n
+}
+
+// The digits of that base behind the blank at `at`, at most so many, to the end of a word.
+fn digits(line: &[u8], at: usize, base: u64, most: usize) -> Word
+    requires { ⌜ base ≤ 16 ⌝ }
+{
+    let mut w = Word {
+        good: byte_at(line, at) == b' ',
+        value: 0,
+        end: next(line, at),
+    };
+    let mut left = most;
     while left > 0 {
-        let d = hex_value(byte_at(line, p));
-        if d > 15 {
-            return bad();
-        }
-        value = value % 0x1000_0000_0000_0000 * 16 + d;
-        p = next(line, p);
+        w = with_digit(w, hex_value(byte_at(line, w.end)), base, next(line, w.end));
         left -= 1;
     }
-    Word {
-        good: is_end(line, p),
-        value,
-        end: p,
-    }
+    w.good = w.good & is_end(line, w.end);
+    w
+}
+
+// The hexadecimal word of so many digits behind the blank at `at`.
+pub fn hex_word(line: &[u8], at: usize, count: usize) -> Word {
+    let mut w = digits(line, at, 16, count);
+    w.good = w.good & (count < std::num::wrapping_sub_usize(w.end, at));
+    w
 }
 
 // The decimal word below 2^32 behind the blank at `at`.
 pub fn whole_word(line: &[u8], at: usize) -> Word {
-    if byte_at(line, at) != b' ' {
-        return bad();
-    }
-    let mut p = next(line, at);
-    let mut value: u64 = 0;
-    let mut digits: usize = 0;
-    while digits < 11 {
-        let d = hex_value(byte_at(line, p));
-        if d > 9 {
-            break;
-        }
-        value = value % 1000000000000 * 10 + d;
-        p = next(line, p);
-        digits += 1;
-    }
-    Word {
-        good: is_end(line, p) && 0 < digits && value < 0x1_0000_0000,
-        value,
-        end: p,
-    }
+    let mut w = digits(line, at, 10, 11);
+    w.good = w.good & (1 < std::num::wrapping_sub_usize(w.end, at)) & (w.value < 0x1_0000_0000);
+    w
 }
 
 // The f32 of a bit pattern, any NaN's too.
@@ -164,36 +152,44 @@ fn store_f64(into: &mut [f64], at: usize, x: f64) {
     }
 }
 
+// How many words of that width, its blank counted, the line has from a place on; a part of one counts.
+fn words_from(line: &[u8], at: usize, width: usize) -> usize
+    requires { ⌜ 0 < width ⌝ }
+{
+    if at < line.len() {
+        return std::num::wrapping_add_usize((line.len() - at - 1) / width, 1);
+    }
+    0
+}
+
 // The f32s from the blank at `at` to the line's end.
 pub fn read_f32s(line: &[u8], at: usize, into: &mut [f32]) -> Count {
-    let mut p = at;
-    let mut n = 0;
+    let n = words_from(line, at, 9);
     let mut good = true;
-    let mut left = line.len();
-    while left > 0 && good && p < line.len() {
+    let mut p = at;
+    let mut i = 0;
+    while i < n {
         let w = f32_word(line, p);
-        store_f32(into, n, w.value);
-        good = w.good;
+        store_f32(into, i, w.value);
+        good = good & w.good;
         p = w.end;
-        n = n + 1;
-        left -= 1;
+        i += 1;
     }
     Count { good, n }
 }
 
 // The f64s from the blank at `at` to the line's end.
 pub fn read_f64s(line: &[u8], at: usize, into: &mut [f64]) -> Count {
-    let mut p = at;
-    let mut n = 0;
+    let n = words_from(line, at, 17);
     let mut good = true;
-    let mut left = line.len();
-    while left > 0 && good && p < line.len() {
+    let mut p = at;
+    let mut i = 0;
+    while i < n {
         let w = hex_word(line, p, 16);
-        store_f64(into, n, f64_of(w.value));
-        good = w.good;
+        store_f64(into, i, f64_of(w.value));
+        good = good & w.good;
         p = w.end;
-        n = n + 1;
-        left -= 1;
+        i += 1;
     }
     Count { good, n }
 }
@@ -208,6 +204,63 @@ pub fn is_word(line: &[u8], word: &[u8]) -> bool {
         i += 1;
     }
     is_end(line, i)
+}
+
+// A word of a text beside the line's first word: its number, the place in the line that is compared next, and whether they are the
+// same so far. Once the line's word is found, its number stays.
+struct Beside {
+    found: bool,
+    number: usize,
+    at: usize,
+    same: bool,
+}
+
+// The byte at a place, a blank past the end: there a word ends as well.
+fn or_blank(line: &[u8], at: usize) -> u8 {
+    if at < line.len() { line[at] } else { b' ' }
+}
+
+// One byte further, with that byte of the line and that of the text.
+fn compared(s: Beside, of_line: u8, of_text: u8) -> Beside {
+    let mut n = s;
+    if s.found {
+        return n;
+    }
+    if of_text != b' ' {
+        n.at = std::num::wrapping_add_usize(s.at, 1);
+        n.same = s.same & (of_line == of_text);
+        return n;
+    }
+    n.found = s.same & (of_line == b' ');
+    n.number = after(s.number, !n.found);
+    n.at = 0;
+    n.same = true;
+    n
+}
+
+// The number of the next word, if there is one.
+fn after(number: usize, is_next: bool) -> usize {
+    if is_next {
+        return std::num::wrapping_add_usize(number, 1);
+    }
+    number
+}
+
+// The number of the line's first word among the words of a text that blanks part, from 0; their count where it is none of them.
+pub fn which(line: &[u8], words: &[u8]) -> usize {
+    let mut s = Beside {
+        found: false,
+        number: 0,
+        at: 0,
+        same: true,
+    };
+    let mut i = 0;
+    while i < words.len() {
+        s = compared(s, or_blank(line, s.at), words[i]);
+        i += 1;
+    }
+    s = compared(s, or_blank(line, s.at), b' ');
+    s.number
 }
 
 // Puts a byte and answers the next place; where the answer is full, nothing.
@@ -225,6 +278,28 @@ pub fn put_text(out: &mut [u8], at: usize, text: &[u8]) -> usize {
     let mut i = 0;
     while i < text.len() {
         to = put(out, to, text[i]);
+        i += 1;
+    }
+    to
+}
+
+// Puts a byte that is no blank, if it is one of the word that is asked for.
+fn put_of(out: &mut [u8], at: usize, b: u8, is_asked: bool) -> usize {
+    if is_asked & (b != b' ') {
+        return put(out, at, b);
+    }
+    at
+}
+
+// Puts the word of that number of such a text; nothing where there is none.
+pub fn put_nth(out: &mut [u8], at: usize, words: &[u8], n: usize) -> usize {
+    let mut to = at;
+    let mut number = 0;
+    let mut i = 0;
+    while i < words.len() {
+        let b = words[i];
+        number = after(number, b == b' ');
+        to = put_of(out, to, b, number == n);
         i += 1;
     }
     to
@@ -282,13 +357,18 @@ pub fn put_f64(out: &mut [u8], at: usize, x: f64) -> usize {
     put_hex(out, at, f64_bits(x), 16)
 }
 
+// Puts an f32 behind a blank.
+fn put_next_f32(out: &mut [u8], at: usize, x: f32) -> usize {
+    let p = put(out, at, b' ');
+    put_f32(out, p, x)
+}
+
 // Puts each number behind a blank.
 pub fn put_f32s(out: &mut [u8], at: usize, numbers: &[f32]) -> usize {
     let mut to = at;
     let mut i = 0;
     while i < numbers.len() {
-        to = put(out, to, b' ');
-        to = put_f32(out, to, numbers[i]);
+        to = put_next_f32(out, to, numbers[i]);
         i += 1;
     }
     to
@@ -304,8 +384,7 @@ pub fn put_row(out: &mut [u8], at: usize, numbers: &[f32], count: usize) -> usiz
     let mut to = put_f32(out, at, number_at(numbers, 0));
     let mut i = 1;
     while i < count {
-        to = put(out, to, b' ');
-        to = put_f32(out, to, number_at(numbers, i));
+        to = put_next_f32(out, to, number_at(numbers, i));
         i += 1;
     }
     to

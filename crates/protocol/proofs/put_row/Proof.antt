@@ -21,14 +21,11 @@ put-f32-requires c κs = search needs
 loop-holds : tie.Need-loop-holds Inv-loop μ-loop
 loop-holds c = search needs
 
-put-requires : tie.Need-put-requires Inv-loop μ-loop
-put-requires c κs = search needs
-
 number-at-requires-2 : tie.Need-number-at-requires-2 Inv-loop μ-loop
 number-at-requires-2 c κs = search needs
 
-put-f32-requires-2 : tie.Need-put-f32-requires-2 Inv-loop μ-loop
-put-f32-requires-2 c κs = search needs
+put-next-f32-requires : tie.Need-put-next-f32-requires Inv-loop μ-loop
+put-next-f32-requires c κs = search needs
 
 add-i : tie.Need-add-i Inv-loop μ-loop
 add-i c = search needs
@@ -54,9 +51,8 @@ put-row-spec =
     number-at-requires
     put-f32-requires
     loop-holds
-    put-requires
     number-at-requires-2
-    put-f32-requires-2
+    put-next-f32-requires
     add-i
     loop-less
     loop-again

@@ -1,16 +1,19 @@
 -- `protocol::read_f32s` meets its contract. Assumes nothing.
 use borrow.Author.Needs.{needs}
 use mathlib.Core.Path.{_≡_}
-use Prim.Native.Nat.{_+_, _≤_}
+use Prim.Native.Nat.{_-_}
 use lib.ListN.{length}
 use Rattle.protocol.proofs.read_f32s.Statement.{statement}
 use Rattle.protocol.proofs.read_f32s.Tie as tie
 
 abbrev Inv-loop : tie.InvT-loop
-Inv-loop line at into₀ p₀ n₀ good₀ left₀ into p n good left = (n + left ≤ length line) × (length into ≡ length into₀)
+Inv-loop line at into₀ n good₀ p₀ i₀ into good p i = length into ≡ length into₀
 
 abbrev μ-loop : tie.MeasureT-loop
-μ-loop line at into₀ p₀ n₀ good₀ left₀ into p n good left = left
+μ-loop line at into₀ n good₀ p₀ i₀ into good p i = n - i
+
+words-from-requires : tie.Need-words-from-requires Inv-loop μ-loop
+words-from-requires c κs = search needs
 
 loop-holds : tie.Need-loop-holds Inv-loop μ-loop
 loop-holds c = search needs
@@ -21,11 +24,8 @@ f32-word-requires c κs = search needs
 store-f32-requires : tie.Need-store-f32-requires Inv-loop μ-loop
 store-f32-requires c κs = search needs
 
-add-n : tie.Need-add-n Inv-loop μ-loop
-add-n c = search needs
-
-sub-left : tie.Need-sub-left Inv-loop μ-loop
-sub-left c = search needs
+add-i : tie.Need-add-i Inv-loop μ-loop
+add-i c = search needs
 
 loop-less : tie.Need-loop-less Inv-loop μ-loop
 loop-less c = search needs
@@ -39,34 +39,18 @@ same-length c = search needs
 returns : tie.Need-returns Inv-loop μ-loop
 returns c = search needs
 
-same-length-2 : tie.Need-same-length-2 Inv-loop μ-loop
-same-length-2 c = search needs
-
-returns-2 : tie.Need-returns-2 Inv-loop μ-loop
-returns-2 c = search needs
-
-same-length-3 : tie.Need-same-length-3 Inv-loop μ-loop
-same-length-3 c = search needs
-
-returns-3 : tie.Need-returns-3 Inv-loop μ-loop
-returns-3 c = search needs
-
 pub read-f32s-spec : {M : Type 1} → statement M
 read-f32s-spec =
     tie.close
     (tie.spec
     Inv-loop
     μ-loop
+    words-from-requires
     loop-holds
     f32-word-requires
     store-f32-requires
-    add-n
-    sub-left
+    add-i
     loop-less
     loop-again
     same-length
-    returns
-    same-length-2
-    returns-2
-    same-length-3
-    returns-3)
+    returns)

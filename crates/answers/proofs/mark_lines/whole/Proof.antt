@@ -1,8 +1,8 @@
--- `answers::assign::whole` meets its contract. Assumes nothing.
+-- `answers::mark_lines::whole` meets its contract. Assumes nothing.
 use borrow.Author.Needs.{needs}
 use mathlib.Core.Path.{sym, _∙_}
-use Rattle.answers.proofs.assign.whole.Statement.{statement}
-use Rattle.answers.proofs.assign.whole.Tie as tie
+use Rattle.answers.proofs.mark_lines.whole.Statement.{statement}
+use Rattle.answers.proofs.mark_lines.whole.Tie as tie
 
 is-free-requires : tie.Need-is-free-requires
 is-free-requires c κs = search needs

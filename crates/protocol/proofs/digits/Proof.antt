@@ -1,22 +1,16 @@
--- `protocol::hex_word` meets its contract. Assumes nothing.
+-- `protocol::digits` meets its contract. Assumes nothing.
 use borrow.Author.Needs.{needs}
-use Rattle.protocol.proofs.hex_word.Statement.{statement}
-use Rattle.protocol.proofs.hex_word.Tie as tie
+use Rattle.protocol.proofs.digits.Statement.{statement}
+use Rattle.protocol.proofs.digits.Tie as tie
 
 abbrev Inv-loop : tie.InvT-loop
-Inv-loop line at digits p₀ value₀ left₀ p value left = Unit {0}
+Inv-loop line at base most w₀ left₀ w left = Unit {0}
 
 abbrev μ-loop : tie.MeasureT-loop
-μ-loop line at digits p₀ value₀ left₀ p value left = left
+μ-loop line at base most w₀ left₀ w left = left
 
 byte-at-requires : tie.Need-byte-at-requires Inv-loop μ-loop
 byte-at-requires c κs = search needs
-
-bad-requires : tie.Need-bad-requires Inv-loop μ-loop
-bad-requires c κs = search needs
-
-returns : tie.Need-returns Inv-loop μ-loop
-returns c = search needs
 
 next-requires : tie.Need-next-requires Inv-loop μ-loop
 next-requires c κs = search needs
@@ -30,20 +24,11 @@ byte-at-requires-2 c κs = search needs
 hex-value-requires : tie.Need-hex-value-requires Inv-loop μ-loop
 hex-value-requires c κs = search needs
 
-bad-requires-2 : tie.Need-bad-requires-2 Inv-loop μ-loop
-bad-requires-2 c κs = search needs
-
-returns-2 : tie.Need-returns-2 Inv-loop μ-loop
-returns-2 c = search needs
-
-mul-value : tie.Need-mul-value Inv-loop μ-loop
-mul-value c = search needs
-
-add-value : tie.Need-add-value Inv-loop μ-loop
-add-value c = search needs
-
 next-requires-2 : tie.Need-next-requires-2 Inv-loop μ-loop
 next-requires-2 c κs = search needs
+
+with-digit-requires : tie.Need-with-digit-requires Inv-loop μ-loop
+with-digit-requires c κs = search needs
 
 sub-left : tie.Need-sub-left Inv-loop μ-loop
 sub-left c = search needs
@@ -57,29 +42,24 @@ loop-again c = search needs
 is-end-requires : tie.Need-is-end-requires Inv-loop μ-loop
 is-end-requires c κs = search needs
 
-returns-3 : tie.Need-returns-3 Inv-loop μ-loop
-returns-3 c = search needs
+returns : tie.Need-returns Inv-loop μ-loop
+returns c = search needs
 
-pub hex-word-spec : {M : Type 1} → statement M
-hex-word-spec =
+pub digits-spec : {M : Type 1} → statement M
+digits-spec =
     tie.close
     (tie.spec
     Inv-loop
     μ-loop
     byte-at-requires
-    bad-requires
-    returns
     next-requires
     loop-holds
     byte-at-requires-2
     hex-value-requires
-    bad-requires-2
-    returns-2
-    mul-value
-    add-value
     next-requires-2
+    with-digit-requires
     sub-left
     loop-less
     loop-again
     is-end-requires
-    returns-3)
+    returns)
