@@ -1,20 +1,115 @@
-// The text of a tracker's whole state, by which it is compared with the original's: put line by line, hashed, and read back.
+// The text of a tracker's whole state, by which it is compared with the original's: put line by line from the lists of its image
+// (crate `image`), hashed, and read back into such lists.
 mod load;
 
-use frame::Tracked;
-use frame::Tracker;
-use kalman_filter::DetectBox;
-use kalman_filter::Filter;
+use image::TrackerImage;
 pub use load::Given;
 pub use load::Loading;
 pub use load::begin;
 pub use load::is_whole;
 pub use load::settings;
 pub use load::take;
-use strack::Direction;
-use strack::LastBox;
-use strack::ListBox;
-use strack::Track;
+ghost use Prim.Native.Nat.{_+_, _≤_, _<_};
+
+// A track's lines behind its first, from 0: its filter, the saved one, its last box, the list's box, its direction, its kept boxes,
+// and its newest box, which is the last one.
+const LINES: usize = 16;
+
+// Where the numbers of a line start among a track's, and how many they are.
+struct Part {
+    from: usize,
+    n: usize,
+}
+
+fn span(line: usize) -> Part
+    ensures { λ r. ⌜ r .from + r .n ≤ 163 ⌝ }
+{
+    match line {
+        0 => Part { from: 0, n: 7 },
+        1 => Part { from: 7, n: 49 },
+        2 => Part { from: 56, n: 7 },
+        3 => Part { from: 63, n: 49 },
+        5 => Part { from: 117, n: 4 },
+        6 => Part { from: 121, n: 2 },
+        7..=14 => Part {
+            from: 88 + 5 * line,
+            n: 5,
+        },
+        _ => Part { from: 112, n: 5 },
+    }
+}
+
+// The number at a place of a list, 0 past its end.
+fn word_at(words: &[u32], at: usize) -> u32 {
+    if at < words.len() { words[at] } else { 0 }
+}
+
+fn wide_at(wide: &[u64], at: usize) -> u64 {
+    if at < wide.len() { wide[at] } else { 0 }
+}
+
+// The word of a track by which a line has numbers: `frozen` for the saved filter, else the tag of what the line shows.
+fn tag_of(line: usize) -> usize
+    ensures { λ r. ⌜ r ≤ 14 ⌝ }
+{
+    match line {
+        2 | 3 => 0,
+        5..=14 => line,
+        _ => 4,
+    }
+}
+
+// Whether track k has numbers for a line. A filter always has.
+fn has_numbers(words: &[u32], k: usize, line: usize) -> bool
+    requires { ⌜ k < 64 ⌝ }
+{
+    (line < 2) | (word_at(words, 5 + 15 * k + tag_of(line)) != 0)
+}
+
+// Puts the numbers of a line, each behind a blank, or the word `none`.
+fn put_value(out: &mut [u8], at: usize, floats: &[f32], k: usize, line: usize, has: bool) -> usize
+    requires { ⌜ k < 64 ⌝ }
+{
+    if !has {
+        return protocol::put_text(out, at, b" none");
+    }
+    let s = span(line);
+    let from = 3 + 163 * k + s.from;
+    let end = from + s.n;
+    if floats.len() < end {
+        return at;
+    }
+    protocol::put_f32s(out, at, &floats[from..end])
+}
+
+// Puts a line of track k. Of a track that isn't frozen there is no saved filter.
+fn put_line(
+    out: &mut [u8],
+    at: usize,
+    floats: &[f32],
+    words: &[u32],
+    k: usize,
+    line: usize,
+) -> usize
+    requires { ⌜ k < 64 ⌝ }
+{
+    let has = has_numbers(words, k, line);
+    if !has & ((line == 2) | (line == 3)) {
+        return at;
+    }
+    let mut p = put_name(out, at, line);
+    p = put_value(out, p, floats, k, line, has);
+    protocol::put(out, p, b'\n')
+}
+
+fn put_name(out: &mut [u8], at: usize, line: usize) -> usize {
+    protocol::put_nth(
+        out,
+        at,
+        b"x p sx sp last list dir kept0 kept1 kept2 kept3 kept4 kept5 kept6 kept7 newest",
+        line,
+    )
+}
 
 // Puts a whole number behind a blank.
 fn put_count(out: &mut [u8], at: usize, x: u64) -> usize {
@@ -22,159 +117,76 @@ fn put_count(out: &mut [u8], at: usize, x: u64) -> usize {
     protocol::put_whole(out, p, x)
 }
 
-// Puts a line of numbers behind its name.
-fn put_line(out: &mut [u8], at: usize, name: &[u8], numbers: &[f32]) -> usize {
-    let p = protocol::put_text(out, at, name);
-    let p = protocol::put_f32s(out, p, numbers);
+// Puts a word of a list behind a blank.
+fn put_word(out: &mut [u8], at: usize, words: &[u32], i: usize) -> usize {
+    put_count(out, at, word_at(words, i) as u64)
+}
+
+// Puts track k's first line: id, age, streak, frames since update, frozen.
+fn put_head(out: &mut [u8], at: usize, wide: &[u64], words: &[u32], k: usize) -> usize
+    requires { ⌜ k < 64 ⌝ }
+{
+    let w = 5 + 15 * k;
+    let mut p = protocol::put_text(out, at, b"track");
+    p = put_count(out, p, wide_at(wide, 2 + k));
+    p = put_word(out, p, words, w + 1);
+    p = put_word(out, p, words, w + 2);
+    p = put_word(out, p, words, w + 3);
+    p = put_word(out, p, words, w);
     protocol::put(out, p, b'\n')
 }
 
-// Puts a line that says that there is nothing of this name.
-fn put_none(out: &mut [u8], at: usize, name: &[u8]) -> usize {
-    let p = protocol::put_text(out, at, name);
-    protocol::put_text(out, p, b" none\n")
-}
-
-fn put_filter(out: &mut [u8], at: usize, f: Filter) -> usize {
-    let x = f.x;
-    let p = f.p;
-    let q = put_line(out, at, b"x", &x);
-    put_line(out, q, b"p", &p)
-}
-
-// The saved filter, of a frozen track alone.
-fn put_saved(out: &mut [u8], at: usize, f: Filter, frozen: bool) -> usize {
-    if !frozen {
-        return at;
-    }
-    let x = f.x;
-    let p = f.p;
-    let q = put_line(out, at, b"sx", &x);
-    put_line(out, q, b"sp", &p)
-}
-
-fn put_box(out: &mut [u8], at: usize, name: &[u8], b: LastBox) -> usize {
-    match b {
-        LastBox::Unseen => put_none(out, at, name),
-        LastBox::Seen(x1, y1, x2, y2, score) => {
-            let numbers = [x1, y1, x2, y2, score];
-            put_line(out, at, name, &numbers)
-        }
-    }
-}
-
-fn put_list(out: &mut [u8], at: usize, b: ListBox) -> usize {
-    match b {
-        ListBox::Empty => put_none(out, at, b"list"),
-        ListBox::Holds(z) => put_measured(out, at, z),
-    }
-}
-
-fn put_measured(out: &mut [u8], at: usize, z: DetectBox) -> usize {
-    let numbers = [z.x, z.y, z.s, z.r];
-    put_line(out, at, b"list", &numbers)
-}
-
-fn put_direction(out: &mut [u8], at: usize, d: Direction) -> usize {
-    match d {
-        Direction::Unknown => put_none(out, at, b"dir"),
-        Direction::Known(dy, dx) => {
-            let numbers = [dy, dx];
-            put_line(out, at, b"dir", &numbers)
-        }
-    }
-}
-
-// The digit of a kept box's name.
-fn digit(i: usize) -> u8 {
-    if i < 8 { 48 + i as u8 } else { 48 }
-}
-
-fn put_kept(out: &mut [u8], at: usize, t: Track) -> usize {
-    let kept = t.kept;
+fn put_lines(out: &mut [u8], at: usize, floats: &[f32], words: &[u32], k: usize) -> usize
+    requires { ⌜ k < 64 ⌝ }
+{
     let mut to = at;
-    let mut i = 0;
-    while i < 8 {
-        let k = kept[i];
-        let name = [b'k', b'e', b'p', b't', digit(i)];
-        let b = k.at;
-        to = put_box(out, to, &name, b);
-        i += 1;
+    let mut line = 0;
+    while line < LINES {
+        to = put_line(out, to, floats, words, k, line);
+        line += 1;
     }
     to
 }
 
-fn put_counts(out: &mut [u8], at: usize, t: Track) -> usize {
-    let p = put_count(out, at, t.age as u64);
-    let p = put_count(out, p, t.streak as u64);
-    let p = put_count(out, p, t.since as u64);
-    let p = put_count(out, p, t.frozen as u64);
-    protocol::put(out, p, b'\n')
+// How many tracks of the table a count stands for.
+fn held(count: u64) -> usize
+    ensures { λ r. ⌜ r ≤ 64 ⌝ }
+{
+    if count < 64 { count as usize } else { 64 }
 }
 
-fn put_filters(out: &mut [u8], at: usize, t: Track) -> usize {
-    let filter = t.filter;
-    let saved = t.saved;
-    let p = put_filter(out, at, filter);
-    put_saved(out, p, saved, t.frozen)
-}
-
-fn put_boxes(out: &mut [u8], at: usize, t: Track) -> usize {
-    let last = t.last;
-    let list = t.list;
-    let direction = t.direction;
-    let p = put_box(out, at, b"last", last);
-    let p = put_list(out, p, list);
-    let p = put_direction(out, p, direction);
-    let p = put_kept(out, p, t);
-    put_box(out, p, b"newest", last)
-}
-
-fn put_track(out: &mut [u8], at: usize, t: Track) -> usize {
-    let p = put_counts(out, at, t);
-    let p = put_filters(out, p, t);
-    put_boxes(out, p, t)
-}
-
-fn put_tracked(out: &mut [u8], at: usize, e: Tracked) -> usize {
-    let p = protocol::put_text(out, at, b"track");
-    let p = put_count(out, p, e.id);
-    put_track(out, p, e.track)
-}
-
-// The entry at a place below the count, if it is one of the table.
-fn put_entry(out: &mut [u8], at: usize, t: Tracker, i: usize) -> usize {
-    if 63 < i {
-        return at;
-    }
-    let e = t.table[i];
-    put_tracked(out, at, e)
-}
-
-// How many entries of the table a count stands for.
-fn held(count: usize) -> usize {
-    if count < 64 { count } else { 64 }
-}
-
-fn put_tracks(out: &mut [u8], at: usize, t: Tracker) -> usize {
-    let n = held(t.count);
+fn put_tracks(
+    out: &mut [u8],
+    at: usize,
+    wide: &[u64; 66],
+    floats: &[f32; 10435],
+    words: &[u32; 965],
+    n: usize,
+) -> usize
+    requires { ⌜ n ≤ 64 ⌝ }
+{
     let mut to = at;
-    let mut i = 0;
-    while i < n {
-        to = put_entry(out, to, t, i);
-        i += 1;
+    let mut k = 0;
+    while k < n {
+        to = put_head(out, to, wide, words, k);
+        to = put_lines(out, to, floats, words, k);
+        k += 1;
     }
     to
 }
 
 // Puts the whole state.
-pub fn put_state(out: &mut [u8], at: usize, t: Tracker) -> usize {
-    let p = protocol::put_text(out, at, b"state");
-    let p = put_count(out, p, t.frames as u64);
-    let p = put_count(out, p, t.issued);
-    let p = put_count(out, p, t.count as u64);
-    let p = protocol::put(out, p, b'\n');
-    let p = put_tracks(out, p, t);
+pub fn put_state(out: &mut [u8], at: usize, i: TrackerImage) -> usize {
+    let wide = i.wide;
+    let floats = i.floats;
+    let words = i.words;
+    let n = held(wide[1]);
+    let mut p = protocol::put_text(out, at, b"state");
+    p = put_count(out, p, words[4] as u64);
+    p = put_count(out, p, wide[0]);
+    p = put_count(out, p, wide[1]);
+    p = protocol::put(out, p, b'\n');
+    p = put_tracks(out, p, &wide, &floats, &words, n);
     protocol::put_text(out, p, b"end\n")
 }
 

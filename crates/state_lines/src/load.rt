@@ -1,24 +1,18 @@
 // Reading a state's text: a `load` line with the settings and counts, then the lines of each track in the order in which they are put.
-use crate::digit;
+use crate::LINES;
 use crate::held;
+use crate::put_name;
+use crate::span;
 use frame::Settings;
-use frame::Tracked;
-use frame::Tracker;
-use kalman_filter::DetectBox;
-use kalman_filter::Filter;
-use strack::Direction;
-use strack::Kept;
-use strack::LastBox;
-use strack::ListBox;
-use strack::Track;
+use image::TrackerImage;
+ghost use Prim.Native.Nat.{_<_};
 
-// A state of which some lines have come. `line` says which of a track's lines comes next: 0 the track line or the end, 1 and 2 the
-// filter, 3 and 4 the saved one, 5 the last box, 6 the list box, 7 the direction, 8 to 15 the kept boxes, 16 the newest box.
+// A state of which some lines have come: the track whose lines come next, and which of them; LINES is its first line, or the end.
 pub struct Loading {
     pub good: bool,
     pub index: usize,
-    pub line: u32,
-    pub tracker: Tracker,
+    pub line: usize,
+    pub image: TrackerImage,
 }
 
 // Settings that were read, and where they end.
@@ -37,10 +31,10 @@ pub fn settings(line: &[u8], at: usize) -> Given {
     let min_hits = protocol::whole_word(line, max_age.end);
     let delta_t = protocol::whole_word(line, min_hits.end);
     let byte = protocol::whole_word(line, delta_t.end);
-    let floats = det.good && iou.good && inertia.good;
-    let counts = max_age.good && min_hits.good && delta_t.good;
+    let floats = det.good & iou.good & inertia.good;
+    let counts = max_age.good & min_hits.good & delta_t.good;
     Given {
-        good: floats && counts && byte.good && byte.value < 2,
+        good: floats & counts & byte.good & (byte.value < 2),
         end: byte.end,
         settings: Settings {
             det_thresh: det.value,
@@ -54,27 +48,26 @@ pub fn settings(line: &[u8], at: usize) -> Given {
     }
 }
 
-// A track of zeros that no box has come to.
-fn blank() -> Tracked {
-    let zeros = Filter {
-        x: [0.0; 7],
-        p: [0.0; 49],
-    };
-    let track = Track {
-        filter: zeros,
-        saved: zeros,
-        frozen: false,
-        age: 0,
-        streak: 0,
-        since: 0,
-        last: LastBox::Unseen,
-        list: ListBox::Empty,
-        direction: Direction::Unknown,
-        kept: [Kept {
-            at: LastBox::Unseen,
-        }; 8],
-    };
-    Tracked { id: 0, track }
+// The lists of a state with these settings and totals, and no track.
+fn empty(s: Settings, frames: u32, issued: u64, count: u64) -> TrackerImage {
+    let mut wide = [0u64; 66];
+    let mut floats = [0.0f32; 10435];
+    let mut words = [0u32; 965];
+    wide[0] = issued;
+    wide[1] = count;
+    floats[0] = s.det_thresh;
+    floats[1] = s.iou_threshold;
+    floats[2] = s.inertia;
+    words[0] = s.max_age;
+    words[1] = s.min_hits;
+    words[2] = s.delta_t;
+    words[3] = image::flag(s.use_byte);
+    words[4] = frames;
+    TrackerImage {
+        wide,
+        floats,
+        words,
+    }
 }
 
 // The `load` line: settings, frames, ids and count.
@@ -83,295 +76,191 @@ pub fn begin(line: &[u8]) -> Loading {
     let frames = protocol::whole_word(line, given.end);
     let ids = protocol::whole_word(line, frames.end);
     let count = protocol::whole_word(line, ids.end);
-    let counts = frames.good && ids.good && count.good;
-    let e = blank();
-    let table = [e; 64];
+    let ends = count.end == line.len();
+    let s = given.settings;
     Loading {
-        good: given.good && counts && count.end == line.len(),
+        good: given.good & frames.good & ids.good & count.good & ends,
         index: 0,
-        line: 0,
-        tracker: Tracker {
-            settings: given.settings,
-            frames: protocol::low(frames.value),
-            issued: ids.value,
-            count: count.value as usize,
-            table,
-        },
+        line: LINES,
+        image: empty(s, protocol::low(frames.value), ids.value, count.value),
     }
 }
 
-// A track with one more of its lines, and whether the line was good.
-struct Part {
+// A track's first line that was read: id, age, streak, frames since update, frozen.
+struct Head {
     good: bool,
-    track: Track,
+    id: u64,
+    age: u32,
+    streak: u32,
+    since: u32,
+    frozen: u32,
 }
 
-fn read_x(line: &[u8], at: usize, f: Filter) -> Filter {
-    let mut x = [0.0f32; 7];
-    protocol::read_f32s(line, at, &mut x);
-    let p = f.p;
-    Filter { x, p }
+fn read_head(text: &[u8]) -> Head {
+    let id = protocol::whole_word(text, 5);
+    let age = protocol::whole_word(text, id.end);
+    let streak = protocol::whole_word(text, age.end);
+    let since = protocol::whole_word(text, streak.end);
+    let frozen = protocol::whole_word(text, since.end);
+    let words = id.good & age.good & streak.good & since.good & frozen.good;
+    let ends = (frozen.value < 2) & (frozen.end == text.len());
+    Head {
+        good: words & ends & protocol::is_word(text, b"track"),
+        id: id.value,
+        age: protocol::low(age.value),
+        streak: protocol::low(streak.value),
+        since: protocol::low(since.value),
+        frozen: protocol::low(frozen.value),
+    }
 }
 
-fn read_p(line: &[u8], at: usize, f: Filter) -> Filter {
-    let mut p = [0.0f32; 49];
-    protocol::read_f32s(line, at, &mut p);
-    let x = f.x;
-    Filter { x, p }
+// A state with one more line, and whether the line was good.
+struct Read {
+    good: bool,
+    image: TrackerImage,
 }
 
-// Whether the line has this name and so many good numbers behind it.
-fn has(line: &[u8], name: &[u8], n: usize) -> bool {
-    let mut none = [0.0f32; 1];
-    let c = protocol::read_f32s(line, name.len(), &mut none);
-    protocol::is_word(line, name) && c.good && c.n == n
+fn with_head(text: &[u8], i: TrackerImage, k: usize) -> Read
+    requires { ⌜ k < 64 ⌝ }
+{
+    let h = read_head(text);
+    let w = 5 + 15 * k;
+    let mut image = i;
+    image.wide[2 + k] = h.id;
+    image.words[w] = h.frozen;
+    image.words[w + 1] = h.age;
+    image.words[w + 2] = h.streak;
+    image.words[w + 3] = h.since;
+    Read {
+        good: h.good,
+        image,
+    }
 }
 
-// Whether the line has this name and the word `none` alone behind it.
-fn has_none(line: &[u8], name: &[u8]) -> bool {
-    protocol::is_word(line, name) && is_none(line, name.len())
+// Where the name of a line ends in its text, 0 if it has another name.
+fn behind_name(text: &[u8], line: usize) -> usize {
+    let mut name = [0u8; 8];
+    let n = put_name(&mut name, 0, line);
+    if 8 < n {
+        return 0;
+    }
+    if protocol::is_word(text, &name[0..n]) {
+        n
+    } else {
+        0
+    }
 }
 
-fn is_none(line: &[u8], at: usize) -> bool {
-    if at < line.len() {
-        let rest = &line[at..];
-        return rest.len() == 5 && protocol::is_word(rest, b" none");
+// Whether the word `none` is all that stands behind a place.
+fn is_none(text: &[u8], at: usize) -> bool {
+    if at < text.len() {
+        let rest = &text[at..];
+        return (rest.len() == 5) & protocol::is_word(rest, b" none");
     }
     false
 }
 
-// A box that was read: its corners and score, or none.
-struct Box5 {
-    good: bool,
-    found: LastBox,
+// A tag has a box or a direction, and the newest box is not kept apart.
+fn with_tag(i: TrackerImage, k: usize, line: usize, tag: u32) -> TrackerImage
+    requires { ⌜ k < 64 ⌝ }
+{
+    if line < 4 {
+        return i;
+    }
+    if 14 < line {
+        return i;
+    }
+    let mut image = i;
+    image.words[5 + 15 * k + line] = tag;
+    image
 }
 
-fn read_box(line: &[u8], name: &[u8]) -> Box5 {
-    if has_none(line, name) {
-        return Box5 {
-            good: true,
-            found: LastBox::Unseen,
-        };
+// Reads the numbers of a line of track k to their place, and says whether they are as many as the line has.
+fn read_numbers(text: &[u8], at: usize, floats: &mut [f32], k: usize, line: usize) -> bool
+    requires { ⌜ k < 64 ⌝ }
+{
+    let s = span(line);
+    let from = 3 + 163 * k + s.from;
+    let end = from + s.n;
+    if floats.len() < end {
+        return false;
     }
-    let mut v = [0.0f32; 5];
-    protocol::read_f32s(line, name.len(), &mut v);
-    Box5 {
-        good: has(line, name, 5),
-        found: LastBox::Seen(v[0], v[1], v[2], v[3], v[4]),
-    }
+    let c = protocol::read_f32s(text, at, &mut floats[from..end]);
+    c.good & (c.n == s.n)
 }
 
-fn x_line(line: &[u8], t: Track) -> Part {
-    let filter = read_x(line, 1, t.filter);
-    Part {
-        good: has(line, b"x", 7),
-        track: Track { filter, ..t },
+// The newest box has to be one, and is passed over.
+fn with_numbers(text: &[u8], at: usize, i: TrackerImage, k: usize, line: usize) -> Read
+    requires { ⌜ k < 64 ⌝ }
+{
+    let mut floats = i.floats;
+    let good = read_numbers(text, at, &mut floats, k, line);
+    let mut image = i;
+    if line < 15 {
+        image.floats = floats;
     }
+    Read { good, image }
 }
 
-fn p_line(line: &[u8], t: Track) -> Part {
-    let filter = read_p(line, 1, t.filter);
-    Part {
-        good: has(line, b"p", 49),
-        track: Track { filter, ..t },
-    }
-}
-
-fn sx_line(line: &[u8], t: Track) -> Part {
-    let saved = read_x(line, 2, t.saved);
-    Part {
-        good: has(line, b"sx", 7),
-        track: Track { saved, ..t },
-    }
-}
-
-fn sp_line(line: &[u8], t: Track) -> Part {
-    let saved = read_p(line, 2, t.saved);
-    Part {
-        good: has(line, b"sp", 49),
-        track: Track { saved, ..t },
-    }
-}
-
-fn last_line(line: &[u8], t: Track) -> Part {
-    let b = read_box(line, b"last");
-    let last = b.found;
-    Part {
-        good: b.good,
-        track: Track { last, ..t },
-    }
-}
-
-fn list_line(line: &[u8], t: Track) -> Part {
-    if has_none(line, b"list") {
-        let list = ListBox::Empty;
-        return Part {
-            good: true,
-            track: Track { list, ..t },
-        };
-    }
-    let mut v = [0.0f32; 4];
-    protocol::read_f32s(line, 4, &mut v);
-    let z = DetectBox {
-        x: v[0],
-        y: v[1],
-        s: v[2],
-        r: v[3],
-    };
-    let list = ListBox::Holds(z);
-    Part {
-        good: has(line, b"list", 4),
-        track: Track { list, ..t },
-    }
-}
-
-fn direction_line(line: &[u8], t: Track) -> Part {
-    if has_none(line, b"dir") {
-        let direction = Direction::Unknown;
-        return Part {
-            good: true,
-            track: Track { direction, ..t },
-        };
-    }
-    let mut v = [0.0f32; 2];
-    protocol::read_f32s(line, 3, &mut v);
-    let direction = Direction::Known(v[0], v[1]);
-    Part {
-        good: has(line, b"dir", 2),
-        track: Track { direction, ..t },
-    }
-}
-
-fn kept_line(line: &[u8], t: Track, i: usize) -> Part {
-    if 7 < i {
-        return Part {
-            good: false,
-            track: t,
-        };
-    }
-    let name = [b'k', b'e', b'p', b't', digit(i)];
-    let b = read_box(line, &name);
-    let at = b.found;
-    let mut kept = t.kept;
-    kept[i] = Kept { at };
-    Part {
-        good: b.good,
-        track: Track { kept, ..t },
-    }
-}
-
-// The newest box is not kept apart: it has to be one, and is passed over.
-fn newest_line(line: &[u8], t: Track) -> Part {
-    let b = read_box(line, b"newest");
-    Part {
-        good: b.good,
-        track: t,
-    }
-}
-
-fn with_line(line: &[u8], t: Track, which: u32) -> Part {
-    match which {
-        1 => x_line(line, t),
-        2 => p_line(line, t),
-        3 => sx_line(line, t),
-        4 => sp_line(line, t),
-        5 => last_line(line, t),
-        6 => list_line(line, t),
-        7 => direction_line(line, t),
-        8 => kept_line(line, t, 0),
-        9 => kept_line(line, t, 1),
-        10 => kept_line(line, t, 2),
-        11 => kept_line(line, t, 3),
-        12 => kept_line(line, t, 4),
-        13 => kept_line(line, t, 5),
-        14 => kept_line(line, t, 6),
-        15 => kept_line(line, t, 7),
-        _ => newest_line(line, t),
+// A line of track k behind its first: its numbers, or for a box or a direction the word `none`.
+fn with_line(text: &[u8], i: TrackerImage, k: usize, line: usize) -> Read
+    requires { ⌜ k < 64 ⌝ }
+{
+    let at = behind_name(text, line);
+    let none = is_none(text, at);
+    let image = with_tag(i, k, line, image::flag(!none));
+    let r = with_numbers(text, at, image, k, line);
+    let good = r.good | (none & (3 < line));
+    let image = r.image;
+    Read {
+        good: good & (0 < at),
+        image,
     }
 }
 
 // The line after one: a track that is not frozen has no saved filter.
-fn line_after(which: u32, frozen: bool) -> u32 {
-    if which == 2 && !frozen {
-        return 5;
+fn line_after(line: usize, frozen: u32) -> usize {
+    if LINES <= line {
+        return 0;
     }
-    if 15 < which { 0 } else { which + 1 }
-}
-
-// The `track` line: id, age, streak, frames since update, frozen.
-fn track_line(line: &[u8], l: Loading) -> Loading {
-    let id = protocol::whole_word(line, 5);
-    let age = protocol::whole_word(line, id.end);
-    let streak = protocol::whole_word(line, age.end);
-    let since = protocol::whole_word(line, streak.end);
-    let frozen = protocol::whole_word(line, since.end);
-    let words = id.good && age.good && streak.good && since.good && frozen.good;
-    let ends = frozen.value < 2 && frozen.end == line.len() && protocol::is_word(line, b"track");
-    let e = blank();
-    let t = e.track;
-    let track = Track {
-        age: protocol::low(age.value),
-        streak: protocol::low(streak.value),
-        since: protocol::low(since.value),
-        frozen: frozen.value == 1,
-        ..t
-    };
-    with_entry(
-        l,
-        Tracked {
-            id: id.value,
-            track,
-        },
-        words && ends,
-        1,
-    )
-}
-
-// The entry at the index put in, with the line that comes next.
-fn with_entry(l: Loading, e: Tracked, good: bool, line: u32) -> Loading {
-    let i = l.index;
-    let mut tracker = l.tracker;
-    if 63 < i {
-        return Loading {
-            good: false,
-            index: i,
-            line,
-            tracker,
-        };
+    if (line == 1) & (frozen == 0) {
+        return 4;
     }
-    tracker.table[i] = e;
-    Loading {
-        good: l.good && good,
-        index: if line == 0 { i + 1 } else { i },
-        line,
-        tracker,
-    }
+    line + 1
 }
 
 // Takes one more line, which is not the last.
-pub fn take(line: &[u8], l: Loading) -> Loading {
-    if l.line == 0 {
-        return track_line(line, l);
+pub fn take(text: &[u8], l: Loading) -> Loading {
+    let k = l.index;
+    let line = l.line;
+    let image = l.image;
+    if 63 < k {
+        return Loading {
+            good: false,
+            index: k,
+            line,
+            image,
+        };
     }
-    let i = l.index;
-    let tracker = l.tracker;
-    if 63 < i {
-        return l;
+    let r = if line < LINES {
+        with_line(text, image, k, line)
+    } else {
+        with_head(text, image, k)
+    };
+    let image = r.image;
+    let words = image.words;
+    let next = line_after(line, words[5 + 15 * k]);
+    Loading {
+        good: l.good & r.good,
+        index: if next == LINES { k + 1 } else { k },
+        line: next,
+        image,
     }
-    let e = tracker.table[i];
-    let t = e.track;
-    let r = with_line(line, t, l.line);
-    let track = r.track;
-    with_entry(
-        l,
-        Tracked { id: e.id, track },
-        r.good,
-        line_after(l.line, t.frozen),
-    )
 }
 
 // Whether the lines so far are a whole state.
 pub fn is_whole(l: Loading) -> bool {
-    let tracker = l.tracker;
-    l.good && l.line == 0 && l.index == held(tracker.count)
+    let image = l.image;
+    let wide = image.wide;
+    l.good & (l.line == LINES) & (l.index == held(wide[1]))
 }

@@ -1,16 +1,16 @@
 -- `frame_lines::put_reports` meets its contract. Assumes nothing.
 use borrow.Author.Needs.{needs}
 use mathlib.Core.Path.{_≡_}
-use Prim.Native.Nat.{_-_, _≤_}
+use Prim.Native.Nat.{_-_}
 use lib.ListN.{length}
 use Rattle.frame_lines.proofs.put_reports.Statement.{statement}
 use Rattle.frame_lines.proofs.put_reports.Tie as tie
 
 abbrev Inv-loop : tie.InvT-loop
-Inv-loop out₀ at boxes ids count p p' to₀ i₀ out to i = length out ≡ length out₀
+Inv-loop out₀ at boxes ids count p to₀ i₀ out to i = length out ≡ length out₀
 
 abbrev μ-loop : tie.MeasureT-loop
-μ-loop out₀ at boxes ids count p p' to₀ i₀ out to i = count - i
+μ-loop out₀ at boxes ids count p to₀ i₀ out to i = count - i
 
 slice-aggregate-put-text : tie.Need-slice-aggregate-put-text Inv-loop μ-loop
 slice-aggregate-put-text c = search needs

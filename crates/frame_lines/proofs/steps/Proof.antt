@@ -1,15 +1,13 @@
 -- `frame_lines::steps` meets its contract. Assumes nothing.
 use borrow.Author.Needs.{needs}
-use mathlib.Core.Path.{_≡_}
-use lib.ListN.{length}
 use Rattle.frame_lines.proofs.steps.Statement.{statement}
 use Rattle.frame_lines.proofs.steps.Tie as tie
 
 abbrev Inv-loop : tie.InvT-loop
-Inv-loop times input boxes₀ ids₀ last₀ left₀ spoiled₀ boxes ids last left spoiled = (length boxes ≡ length boxes₀) × (length ids ≡ length ids₀)
+Inv-loop times a last₀ spoiled₀ left₀ last spoiled left = Unit {0}
 
 abbrev μ-loop : tie.MeasureT-loop
-μ-loop times input boxes₀ ids₀ last₀ left₀ spoiled₀ boxes ids last left spoiled = left
+μ-loop times a last₀ spoiled₀ left₀ last spoiled left = left
 
 step-requires : tie.Need-step-requires Inv-loop μ-loop
 step-requires c κs = search needs
@@ -29,12 +27,6 @@ loop-less c = search needs
 loop-again : tie.Need-loop-again Inv-loop μ-loop
 loop-again c = search needs
 
-same-length : tie.Need-same-length Inv-loop μ-loop
-same-length c = search needs
-
-same-length-2 : tie.Need-same-length-2 Inv-loop μ-loop
-same-length-2 c = search needs
-
 returns : tie.Need-returns Inv-loop μ-loop
 returns c = search needs
 
@@ -50,6 +42,4 @@ steps-spec =
     sub-left
     loop-less
     loop-again
-    same-length
-    same-length-2
     returns)

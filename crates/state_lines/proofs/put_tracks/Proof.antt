@@ -7,22 +7,22 @@ use Rattle.state_lines.proofs.put_tracks.Statement.{statement}
 use Rattle.state_lines.proofs.put_tracks.Tie as tie
 
 abbrev Inv-loop : tie.InvT-loop
-Inv-loop out₀ at t n to₀ i₀ out to i = length out ≡ length out₀
+Inv-loop out₀ at wide floats words n to₀ k₀ out to k = (k ≤ n) × (length out ≡ length out₀)
 
 abbrev μ-loop : tie.MeasureT-loop
-μ-loop out₀ at t n to₀ i₀ out to i = n - i
-
-held-requires : tie.Need-held-requires Inv-loop μ-loop
-held-requires c κs = search needs
+μ-loop out₀ at wide floats words n to₀ k₀ out to k = n - k
 
 loop-holds : tie.Need-loop-holds Inv-loop μ-loop
 loop-holds c = search needs
 
-put-entry-requires : tie.Need-put-entry-requires Inv-loop μ-loop
-put-entry-requires c κs = search needs
+put-head-requires : tie.Need-put-head-requires Inv-loop μ-loop
+put-head-requires c κs = search needs
 
-add-i : tie.Need-add-i Inv-loop μ-loop
-add-i c = search needs
+put-lines-requires : tie.Need-put-lines-requires Inv-loop μ-loop
+put-lines-requires c κs = search needs
+
+add-k : tie.Need-add-k Inv-loop μ-loop
+add-k c = search needs
 
 loop-less : tie.Need-loop-less Inv-loop μ-loop
 loop-less c = search needs
@@ -42,10 +42,10 @@ put-tracks-spec =
     (tie.spec
     Inv-loop
     μ-loop
-    held-requires
     loop-holds
-    put-entry-requires
-    add-i
+    put-head-requires
+    put-lines-requires
+    add-k
     loop-less
     loop-again
     same-length

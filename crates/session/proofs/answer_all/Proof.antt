@@ -1,9 +1,9 @@
--- `replay::run` meets its contract. Assumes nothing.
+-- `session::answer_all` meets its contract. Assumes nothing.
 use borrow.Author.Needs.{needs}
 use mathlib.Core.Path.{_≡_}
 use lib.ListN.{length}
-use Rattle.replay.proofs.run.Statement.{statement}
-use Rattle.replay.proofs.run.Tie as tie
+use Rattle.session.proofs.answer_all.Statement.{statement}
+use Rattle.session.proofs.answer_all.Tie as tie
 
 abbrev Inv-loop : tie.InvT-loop
 Inv-loop chunk₀ line₀ answers₀ s₀ k₀ turns₀ chunk line answers s k turns = (length chunk ≡ length chunk₀) × (length line ≡ length line₀) × (length answers ≡ length answers₀)
@@ -47,8 +47,8 @@ same-length-3 c = search needs
 returns : tie.Need-returns Inv-loop μ-loop
 returns c = search needs
 
-pub run-spec : {M : Type 1} → statement M
-run-spec =
+pub answer-all-spec : {M : Type 1} → statement M
+answer-all-spec =
     tie.close
     (tie.spec
     Inv-loop

@@ -1,16 +1,14 @@
--- `frame_lines::ids_kept` meets its contract. Assumes nothing.
+-- `frame_lines::are_kept` meets its contract. Assumes nothing.
 use borrow.Author.Needs.{needs}
-use mathlib.Core.Path.{_≡_}
-use Prim.Native.Nat.{_-_, _≤_}
-use lib.ListN.{length}
-use Rattle.frame_lines.proofs.ids_kept.Statement.{statement}
-use Rattle.frame_lines.proofs.ids_kept.Tie as tie
+use Prim.Native.Nat.{_-_}
+use Rattle.frame_lines.proofs.are_kept.Statement.{statement}
+use Rattle.frame_lines.proofs.are_kept.Tie as tie
 
 abbrev Inv-loop : tie.InvT-loop
-Inv-loop ids from i₀ i = from ≤ i
+Inv-loop boxes ids reports kept₀ i₀ kept i = Unit {0}
 
 abbrev μ-loop : tie.MeasureT-loop
-μ-loop ids from i₀ i = length ids - i
+μ-loop boxes ids reports kept₀ i₀ kept i = 256 - i
 
 loop-holds : tie.Need-loop-holds Inv-loop μ-loop
 loop-holds c = search needs
@@ -18,8 +16,8 @@ loop-holds c = search needs
 id-at-requires : tie.Need-id-at-requires Inv-loop μ-loop
 id-at-requires c κs = search needs
 
-returns : tie.Need-returns Inv-loop μ-loop
-returns c = search needs
+is-box-kept-requires : tie.Need-is-box-kept-requires Inv-loop μ-loop
+is-box-kept-requires c κs = search needs
 
 add-i : tie.Need-add-i Inv-loop μ-loop
 add-i c = search needs
@@ -30,19 +28,19 @@ loop-less c = search needs
 loop-again : tie.Need-loop-again Inv-loop μ-loop
 loop-again c = search needs
 
-returns-2 : tie.Need-returns-2 Inv-loop μ-loop
-returns-2 c = search needs
+returns : tie.Need-returns Inv-loop μ-loop
+returns c = search needs
 
-pub ids-kept-spec : {M : Type 1} → statement M
-ids-kept-spec =
+pub are-kept-spec : {M : Type 1} → statement M
+are-kept-spec =
     tie.close
     (tie.spec
     Inv-loop
     μ-loop
     loop-holds
     id-at-requires
-    returns
+    is-box-kept-requires
     add-i
     loop-less
     loop-again
-    returns-2)
+    returns)
