@@ -77,5 +77,5 @@ pub fn replay(line: &[u8], out: &mut [u8], at: usize) -> Answer {
     let from = box_at(line, gap.end);
     let to = box_at(line, std::num::wrapping_add_usize(gap.end, 36));
     let saved = filter_at(line, std::num::wrapping_add_usize(gap.end, 72));
-    put_filter(out, at, kalman_filter::replay(saved, from, to, frames))
+    put_filter(out, at, gap::replay(saved, from, to, frames))
 }

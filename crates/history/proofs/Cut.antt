@@ -10,7 +10,7 @@ use native.Mathlib.Numerals.{add-one}
 use Rattle.kalman_filter.specs.declared.Filter.{Filter}
 use Rattle.kalman_filter.specs.declared.DetectBox.{DetectBox}
 use Rattle.kalman_filter.specs.Filter.{updateOf, predictOf}
-use Rattle.kalman_filter.specs.Gap.{replayOf}
+use Rattle.gap.specs.Gap.{replayOf}
 use Rattle.lists.specs.Lists.{pick}
 use Rattle.object.specs.declared.Detection.{Detection}
 use Rattle.strack.specs.declared.LastBox.{LastBox}

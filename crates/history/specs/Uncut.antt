@@ -8,7 +8,7 @@ use lib.Dec.{leb, eqb}
 use Rattle.kalman_filter.specs.declared.Filter.{Filter}
 use Rattle.kalman_filter.specs.declared.DetectBox.{DetectBox}
 use Rattle.kalman_filter.specs.Filter.{startOf, predictOf, updateOf}
-use Rattle.kalman_filter.specs.Gap.{replayOf}
+use Rattle.gap.specs.Gap.{replayOf}
 use Rattle.lists.specs.Lists.{pick}
 use Rattle.object.specs.declared.Detection.{Detection}
 use Rattle.strack.specs.declared.LastBox.{LastBox}

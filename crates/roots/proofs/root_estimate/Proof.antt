@@ -1,11 +1,11 @@
--- `ieee::root_estimate` meets its contract: no step leaves its type. Assumes nothing.
+-- `roots::root_estimate` meets its contract: no step leaves its type. Assumes nothing.
 use borrow.Author.Needs.{needs}
 use Prim.Native.Nat.{ℕ, _+_, _-_, _*_, _/_, _%_, _^_, _≤_, _<_}
 use native.Mathlib.Nat.{mul-le-mul, le-of-lt, mod-lt}
 use native.Mathlib.Omega.{arith}
 use lib.Dec.{lit<}
-use Rattle.ieee.proofs.root_estimate.Statement.{statement}
-use Rattle.ieee.proofs.root_estimate.Tie as tie
+use Rattle.roots.proofs.root_estimate.Statement.{statement}
+use Rattle.roots.proofs.root_estimate.Tie as tie
 
 digits : (m r : ℕ) → m < 2 ^ 24 → r < 2 ^ 32 → m * r ≤ 2 ^ 24 * 2 ^ 32
 digits m r h k = mul-le-mul (le-of-lt h) (le-of-lt k)

@@ -2,9 +2,9 @@
 use Prim.Native.Nat.{ℕ}
 use lib.IntN.{pos}
 use lib.Ieee.{Float, binary32, add, sub, mul, div, ofInt}
-use Rattle.kalman_filter.specs.Gap.{widthOf, heightOf}
+use Rattle.gap.specs.Gap.{widthOf, heightOf}
 use Rattle.kalman_filter.specs.declared.DetectBox.{DetectBox}
-use Rattle.kalman_filter.specs.declared.Line.{Line}
+use Rattle.gap.specs.declared.Line.{Line}
 
 -- from a to b in gap frames
 abbrev pub change : ℕ → Float → Float → Float

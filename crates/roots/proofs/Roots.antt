@@ -11,7 +11,7 @@ use lib.Pow.{pow-pos}
 use lib.Ieee.{size}
 use lib.Ieee.Digits.{size-lt}
 use lib.Ieee.{nearest}
-use Rattle.ieee.specs.Roots.{IsRoot, withDigit, rootIn, root, nearestRoot}
+use Rattle.roots.specs.Roots.{IsRoot, withDigit, rootIn, root, nearestRoot}
 
 -- ---- squares keep the order
 pub sq-le : {a b : ℕ} → a ≤ b → a * a ≤ b * b

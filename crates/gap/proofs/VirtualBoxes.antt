@@ -3,13 +3,13 @@ use Prim.Native.Nat.{ℕ, suc, _+_, _-_, _<_}
 use native.Mathlib.Numerals.{add-one}
 use native.Mathlib.Omega.{arith}
 use mathlib.Core.Path.{_≡_, refl, ap, sym, _∙_}
 use Rattle.kalman_filter.specs.declared.Filter.{Filter}
 use Rattle.kalman_filter.specs.declared.DetectBox.{DetectBox}
-use Rattle.kalman_filter.specs.declared.Line.{Line}
+use Rattle.gap.specs.declared.Line.{Line}
 use Rattle.kalman_filter.specs.Filter.{predictOf, updateOf}
-use Rattle.kalman_filter.specs.Gap.{along, virtualOf, virtuals}
-use Rattle.kalman_filter.specs.Line.{lineOf, boxAt}
-use Rattle.kalman_filter.proofs.Steps.{virtuals-none, virtuals-one, virtuals-more}
+use Rattle.gap.specs.Gap.{along, virtualOf, virtuals}
+use Rattle.gap.specs.Line.{lineOf, boxAt}
+use Rattle.gap.proofs.Steps.{virtuals-none, virtuals-one, virtuals-more}
 
 on-the-line : (gap : ℕ) (a b : DetectBox) → virtualOf gap a b ≡ boxAt (lineOf gap a b)
 unfolding virtualOf along boxAt lineOf

@@ -1,11 +1,11 @@
--- `kalman_filter::line_between` meets its contract. Assumes nothing.
+-- `gap::line_between` meets its contract. Assumes nothing.
 use borrow.Author.Needs.{needs}
 use lib.Dec.{le→leb}
 use lib.Ieee.{inFloat}
-use Rattle.kalman_filter.specs.Line.{lineOf}
-use Rattle.kalman_filter.proofs.Steps.{width-is, height-is}
-use Rattle.kalman_filter.proofs.line_between.Statement.{statement}
-use Rattle.kalman_filter.proofs.line_between.Tie as tie
+use Rattle.gap.specs.Line.{lineOf}
+use Rattle.gap.proofs.Steps.{width-is, height-is}
+use Rattle.gap.proofs.line_between.Statement.{statement}
+use Rattle.gap.proofs.line_between.Tie as tie
 
 int-to-float-g : tie.Need-int-to-float-g
 unfolding inFloat

@@ -1,10 +1,10 @@
--- `kalman_filter::virtual_box` meets its contract. Assumes nothing.
+-- `gap::virtual_box` meets its contract. Assumes nothing.
 use borrow.Author.Needs.{needs}
 use lib.Dec.{le→leb}
 use lib.Ieee.{inFloat}
-use Rattle.kalman_filter.specs.Line.{boxAt}
-use Rattle.kalman_filter.proofs.virtual_box.Statement.{statement}
-use Rattle.kalman_filter.proofs.virtual_box.Tie as tie
+use Rattle.gap.specs.Line.{boxAt}
+use Rattle.gap.proofs.virtual_box.Statement.{statement}
+use Rattle.gap.proofs.virtual_box.Tie as tie
 
 int-to-float-t : tie.Need-int-to-float-t
 unfolding inFloat

@@ -1,9 +1,9 @@
--- `ieee::nearest_root` meets its contract. Assumes nothing.
+-- `roots::nearest_root` meets its contract. Assumes nothing.
 use borrow.Author.Needs.{needs}
 use native.Mathlib.Omega.{arith}
-use Rattle.ieee.proofs.Roots.{square-fits, nearest-beside, next-beside}
-use Rattle.ieee.proofs.nearest_root.Statement.{statement}
-use Rattle.ieee.proofs.nearest_root.Tie as tie
+use Rattle.roots.proofs.Roots.{square-fits, nearest-beside, next-beside}
+use Rattle.roots.proofs.nearest_root.Statement.{statement}
+use Rattle.roots.proofs.nearest_root.Tie as tie
 
 mul-square : tie.Need-mul-square
 mul-square c = record { fits = square-fits _ (omega arith) }

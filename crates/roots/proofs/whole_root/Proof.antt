@@ -1,11 +1,11 @@
--- `ieee::whole_root` meets its contract. The invariant: lo's square is within a and hi's is above it; the measure is hi - lo. Assumes nothing.
+-- `roots::whole_root` meets its contract. The invariant: lo's square is within a and hi's is above it; the measure is hi - lo. Assumes nothing.
 use mathlib.Core.Path.{subst}
 use Prim.Native.Nat.{ℕ, _-_, _*_, _^_, _≤_, _<_}
 use native.Mathlib.Omega.{arith}
-use Rattle.ieee.specs.Roots.{IsRoot}
-use Rattle.ieee.proofs.Roots.{square-fits}
-use Rattle.ieee.proofs.whole_root.Statement.{statement}
-use Rattle.ieee.proofs.whole_root.Tie as tie
+use Rattle.roots.specs.Roots.{IsRoot}
+use Rattle.roots.proofs.Roots.{square-fits}
+use Rattle.roots.proofs.whole_root.Statement.{statement}
+use Rattle.roots.proofs.whole_root.Tie as tie
 
 abbrev Inv-loop : tie.InvT-loop
 Inv-loop a lo₀ hi₀ lo hi = (lo < hi) × (hi ≤ 2 ^ 24) × (lo * lo ≤ a) × (a < hi * hi)

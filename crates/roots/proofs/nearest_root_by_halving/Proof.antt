@@ -1,14 +1,14 @@
--- `ieee::nearest_root_by_halving` meets its contract. Assumes nothing.
+-- `roots::nearest_root_by_halving` meets its contract. Assumes nothing.
 use borrow.Author.Needs.{needs}
 use mathlib.Core.Path.{_≡_, sym, ap, _∙_}
 use Prim.Native.Nat.{ℕ, _+_, _*_, compare, Ordering}
 use native.Mathlib.Numerals.{add-one}
 use native.Mathlib.Omega.{arith}
 use lib.Ieee.{nearest}
-use Rattle.ieee.specs.Roots.{IsRoot, nearestRoot}
-use Rattle.ieee.proofs.Roots.{square-fits, root-small, nearestRoot-is, cmp-lt, cmp-gt}
-use Rattle.ieee.proofs.nearest_root_by_halving.Statement.{statement}
-use Rattle.ieee.proofs.nearest_root_by_halving.Tie as tie
+use Rattle.roots.specs.Roots.{IsRoot, nearestRoot}
+use Rattle.roots.proofs.Roots.{square-fits, root-small, nearestRoot-is, cmp-lt, cmp-gt}
+use Rattle.roots.proofs.nearest_root_by_halving.Statement.{statement}
+use Rattle.roots.proofs.nearest_root_by_halving.Tie as tie
 
 whole-root-requires : tie.Need-whole-root-requires
 whole-root-requires c κs = search needs

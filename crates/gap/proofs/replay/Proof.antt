@@ -1,15 +1,15 @@
--- `kalman_filter::replay` meets its contract. Assumes nothing.
+-- `gap::replay` meets its contract. Assumes nothing.
 use borrow.Author.Needs.{needs}
 use Prim.Native.Nat.{_+_, _-_, _≤_}
 use native.Mathlib.Omega.{arith}
 use mathlib.Core.Path.{_≡_, refl, ap, sym, _∙_}
 use mathlib.Core.Logic.{⊎-elim}
 use Rattle.kalman_filter.specs.Filter.{updateOf}
-use Rattle.kalman_filter.specs.Line.{boxAt}
-use Rattle.kalman_filter.proofs.Steps.{replay-is}
-use Rattle.kalman_filter.proofs.VirtualBoxes.{rest, rest-all, turn-between, turn-last, rest-none}
-use Rattle.kalman_filter.proofs.replay.Statement.{statement}
-use Rattle.kalman_filter.proofs.replay.Tie as tie
+use Rattle.gap.specs.Line.{boxAt}
+use Rattle.gap.proofs.Steps.{replay-is}
+use Rattle.gap.proofs.VirtualBoxes.{rest, rest-all, turn-between, turn-last, rest-none}
+use Rattle.gap.proofs.replay.Statement.{statement}
+use Rattle.gap.proofs.replay.Tie as tie
 
 abbrev Inv-loop : tie.InvT-loop
 Inv-loop to gap l k₀ t₀ k t = (t ≤ gap + 1) × (rest (boxAt l) gap 1 k₀ ≡ rest (boxAt l) gap t k)
