@@ -123,7 +123,7 @@ pub fn inverse(line: &[u8], out: &mut [u8], at: usize) -> Answer {
 }
 
 fn put_inverse(out: &mut [u8], at: usize, s: [f32; 16]) -> Answer {
-    let r = matrix::try_inverse(s);
+    let r = inverse::try_inverse(s);
     if !r.exists {
         return Answer::Ends(protocol::put_text(out, at, b"none\n"));
     }

@@ -3,8 +3,9 @@ use mathlib.Core.Path.{_≡_, refl}
 use mathlib.Core.List.{List}
 use mathlib.Core.Bool.{true, false}
 use lib.Ieee.{Float}
-use Rattle.matrix.specs.declared.Inverse.{Inverse}
-use Rattle.matrix.specs.Matrix.{product, sum, difference, transpose, identity, inverse}
+use Rattle.matrix.specs.Matrix.{product, sum, difference, transpose}
+use Rattle.inverse.specs.declared.Inverse.{Inverse}
+use Rattle.inverse.specs.Inverse.{identity, inverse}
 use Rattle.kalman_filter.specs.Filter.{fMatrix, hMatrix, rMatrix, qMatrix, measured, predictOf, inverseOrIdentity, gainOf, josephOf, updateOf}
 use Rattle.kalman_filter.specs.declared.Filter.{Filter}
 use Rattle.kalman_filter.specs.declared.DetectBox.{DetectBox}

@@ -146,7 +146,7 @@ pub fn predict(f: Filter) -> Filter
 fn inverse_or_identity(s: [f32; 16]) -> [f32; 16]
     ensures { λ r. ⌜ r ≡ inverseOrIdentity s ⌝ }
 {
-    let i = matrix::try_inverse(s);
+    let i = inverse::try_inverse(s);
     if i.exists {
         let e = i.entries;
         return e;

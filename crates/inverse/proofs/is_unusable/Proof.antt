@@ -1,7 +1,7 @@
--- `matrix::is_unusable` meets its contract. Assumes nothing.
-use Rattle.matrix.specs.Matrix.{unusable}
-use Rattle.matrix.proofs.is_unusable.Statement.{statement}
-use Rattle.matrix.proofs.is_unusable.Tie as tie
+-- `inverse::is_unusable` meets its contract. Assumes nothing.
+use Rattle.inverse.specs.Inverse.{unusable}
+use Rattle.inverse.proofs.is_unusable.Statement.{statement}
+use Rattle.inverse.proofs.is_unusable.Tie as tie
 
 returns : tie.Need-returns
 unfolding unusable

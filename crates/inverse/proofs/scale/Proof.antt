@@ -1,14 +1,14 @@
--- `matrix::scale` meets its contract. Assumes nothing.
+-- `inverse::scale` meets its contract. Assumes nothing.
 use borrow.Author.Needs.{needs}
 use Prim.Native.Nat.{_-_}
 use mathlib.Core.Path.{_≡_, refl, ap, _∙_}
 use lib.Ieee.{nan, div, binary32}
 use lib.ListN.{length, getD}
 use Rattle.lists.specs.Lists.{tab}
-use Rattle.matrix.proofs.Fill.{Filled, filled-none, filled-more, filled-all}
-use Rattle.matrix.specs.Matrix.{scaled}
-use Rattle.matrix.proofs.scale.Statement.{statement}
-use Rattle.matrix.proofs.scale.Tie as tie
+use Rattle.lists.proofs.Fill.{Filled, filled-none, filled-more, filled-all}
+use Rattle.inverse.specs.Inverse.{scaled}
+use Rattle.inverse.proofs.scale.Statement.{statement}
+use Rattle.inverse.proofs.scale.Tie as tie
 
 abbrev Inv-loop : tie.InvT-loop
 Inv-loop c a p out₀ j₀ out j = Filled (λ j. div binary32 (getD a j nan) (getD a c nan)) out₀ out j

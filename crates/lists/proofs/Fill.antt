@@ -1,4 +1,4 @@
--- A loop that writes f 0, f 1, .. over a list from the front, whatever f is: what it keeps, and what it leaves. Assumes nothing.
+-- A loop that writes f 0, f 1, .. over a list of floats from the front, whatever f is: what it keeps, and what it leaves. Assumes nothing.
 use Prim.Native.Nat.{ℕ, _+_, _<_, _≤_}
 use native.Mathlib.Omega.{arith}
 use mathlib.Core.Path.{_≡_, refl, ap, _∙_}

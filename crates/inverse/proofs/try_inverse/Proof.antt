@@ -1,14 +1,14 @@
--- `matrix::try_inverse` meets its contract. Assumes nothing.
+-- `inverse::try_inverse` meets its contract. Assumes nothing.
 use borrow.Author.Needs.{needs}
 use Prim.Native.Nat.{_-_, _≤_}
 use native.Mathlib.Omega.{arith}
 use mathlib.Core.Path.{_≡_, refl, ap, sym, _∙_}
 use mathlib.Core.Option.{some}
-use Rattle.matrix.specs.Matrix.{columns, answer, inverse}
-use Rattle.matrix.specs.Round.{rowsOf}
-use Rattle.matrix.proofs.Columns.{rowsAfter, column-turns, column-ends}
-use Rattle.matrix.proofs.try_inverse.Statement.{statement}
-use Rattle.matrix.proofs.try_inverse.Tie as tie
+use Rattle.inverse.specs.Inverse.{columns, answer, inverse}
+use Rattle.inverse.specs.Round.{rowsOf}
+use Rattle.inverse.proofs.Columns.{rowsAfter, column-turns, column-ends}
+use Rattle.inverse.proofs.try_inverse.Statement.{statement}
+use Rattle.inverse.proofs.try_inverse.Tie as tie
 
 abbrev Inv-loop : tie.InvT-loop
 Inv-loop m₀ c₀ m c = (c ≤ 4) × (columns c (rowsOf m₀) ≡ some (rowsAfter c m))

@@ -1,10 +1,10 @@
--- `matrix::beside_identity` meets its contract. Assumes nothing.
+-- `inverse::beside_identity` meets its contract. Assumes nothing.
 use borrow.Author.Needs.{needs}
 use mathlib.Core.Path.{refl}
 use lib.Ieee.{ofBits}
-use Rattle.matrix.specs.Matrix.{beside, identity}
-use Rattle.matrix.proofs.beside_identity.Statement.{statement}
-use Rattle.matrix.proofs.beside_identity.Tie as tie
+use Rattle.inverse.specs.Inverse.{beside, identity}
+use Rattle.inverse.proofs.beside_identity.Statement.{statement}
+use Rattle.inverse.proofs.beside_identity.Tie as tie
 
 array-read-t9 : tie.Need-array-read-t9
 array-read-t9 c = search needs

@@ -8,9 +8,9 @@ use mathlib.Core.List.{List, [], _∷_}
 use mathlib.Core.Option.{none, some}
 use lib.Ieee.{Float, nan}
 use lib.ListN.{getD}
-use Rattle.matrix.specs.Matrix.{Rows, row, unusable, cleared, unless, column, columns}
-use Rattle.matrix.specs.Round.{turned}
-use Rattle.matrix.specs.declared.Round.{Round}
+use Rattle.inverse.specs.Inverse.{Rows, row, unusable, cleared, unless, column, columns}
+use Rattle.inverse.specs.Round.{turned}
+use Rattle.inverse.specs.declared.Round.{Round}
 
 -- the rows in their order, after k turns
 abbrev pub inOrder : ℕ → List Float → List Float → List Float → List Float → Rows

@@ -1,8 +1,8 @@
--- `matrix::clear` meets its contract. Assumes nothing.
+-- `inverse::clear` meets its contract. Assumes nothing.
 use borrow.Author.Needs.{needs}
-use Rattle.matrix.specs.Round.{turned}
-use Rattle.matrix.proofs.clear.Statement.{statement}
-use Rattle.matrix.proofs.clear.Tie as tie
+use Rattle.inverse.specs.Round.{turned}
+use Rattle.inverse.proofs.clear.Statement.{statement}
+use Rattle.inverse.proofs.clear.Tie as tie
 
 scale-requires : tie.Need-scale-requires
 scale-requires c κs = search needs

@@ -1,8 +1,8 @@
 -- The four rows as the code keeps them: the row of the next pivot stands first, and goes last once its column is cleared.
 use Prim.Native.Nat.{ℕ}
 use mathlib.Core.List.{[], _∷_}
-use Rattle.matrix.specs.Matrix.{Rows, scaled, reduced}
-use Rattle.matrix.specs.declared.Round.{Round}
+use Rattle.inverse.specs.Inverse.{Rows, scaled, reduced}
+use Rattle.inverse.specs.declared.Round.{Round}
 
 abbrev pub rowsOf : Round → Rows
 rowsOf m = m .a ∷ (m .b ∷ (m .c ∷ (m .d ∷ [])))

@@ -1,14 +1,14 @@
--- `matrix::reduce` meets its contract. Assumes nothing.
+-- `inverse::reduce` meets its contract. Assumes nothing.
 use borrow.Author.Needs.{needs}
 use Prim.Native.Nat.{_-_}
 use mathlib.Core.Path.{_≡_, refl, ap, _∙_}
 use lib.Ieee.{nan, sub, mul, binary32}
 use lib.ListN.{length, getD}
 use Rattle.lists.specs.Lists.{tab}
-use Rattle.matrix.proofs.Fill.{Filled, filled-none, filled-more, filled-all}
-use Rattle.matrix.specs.Matrix.{reduced}
-use Rattle.matrix.proofs.reduce.Statement.{statement}
-use Rattle.matrix.proofs.reduce.Tie as tie
+use Rattle.lists.proofs.Fill.{Filled, filled-none, filled-more, filled-all}
+use Rattle.inverse.specs.Inverse.{reduced}
+use Rattle.inverse.proofs.reduce.Statement.{statement}
+use Rattle.inverse.proofs.reduce.Tie as tie
 
 abbrev Inv-loop : tie.InvT-loop
 Inv-loop c a t out₀ j₀ out j = Filled (λ j. sub binary32 (getD a j nan) (mul binary32 (getD t j nan) (getD a c nan))) out₀ out j
