@@ -1,6 +1,6 @@
 -- Document 01, item 4: the replay of a gap. The list box and the box that ends the gap are joined by a straight line of centre, width and height.
 -- Definitions only.
-use Prim.Native.Nat.{ℕ, zero, suc, _+_}
+use Prim.Native.Nat.{ℕ, zero, suc}
 use lib.IntN.{pos}
 use lib.Ieee.{Float, binary32, add, sub, mul, div, ofInt}
 use Rattle.ieee.specs.Sqrt.{sqrtOf}

@@ -9,7 +9,6 @@ use lib.ListN.{getD, length}
 use Rattle.ieee.specs.Ops.{f32}
 use Rattle.lists.specs.Lists.{pick, tab}
 use Rattle.matrix.specs.Matrix.{product, sum, difference, transpose}
-use Rattle.inverse.specs.declared.Inverse.{Inverse}
 use Rattle.inverse.specs.Inverse.{identity, inverse}
 use Rattle.kalman_filter.specs.declared.Filter.{Filter}
 use Rattle.kalman_filter.specs.declared.DetectBox.{DetectBox}

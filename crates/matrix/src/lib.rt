@@ -1,6 +1,6 @@
 // Matrices of f32 on lent slices, row after row: product, sum, difference and transpose, the stand-ins of document 01 for the Rust's matrices. The inverse is crate `inverse`.
 ghost use mathlib.Core.Path.{_≡_};
-ghost use Prim.Native.Nat.{ℕ, _+_, _*_, _≤_, _<_};
+ghost use Prim.Native.Nat.{_+_, _*_, _≤_, _<_};
 ghost use lib.ListN.{length, getD};
 ghost use lib.Ieee.{nan, add, mul, binary32};
 ghost use Rattle.lists.specs.Lists.{tab};
