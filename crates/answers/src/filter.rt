@@ -74,7 +74,7 @@ fn step(g: Given, boxes: usize, gap: usize) -> Filter
     match boxes {
         0 => kalman_filter::predict(f),
         1 => kalman_filter::update(f, a),
-        _ => kalman_filter::replay(f, a, b, gap as u32),
+        _ => gap::replay(f, a, b, gap as u32),
     }
 }
 

@@ -65,7 +65,7 @@ fn row_of(word: usize, v: [f32; 16]) -> Row {
     if word < 16 {
         return boxes(word, corners(v, 0), corners(v, 4));
     }
-    inverted(matrix::try_inverse(v))
+    inverted(inverse::try_inverse(v))
 }
 
 // A row of up to four numbers.

@@ -1,13 +1,12 @@
 -- Document 01, 'Checks at the edges': the cases marked P, one list. Definitions only.
 use mathlib.Core.Path.{_≡_}
-use mathlib.Core.Bool.{Bool, true, false}
+use mathlib.Core.Bool.{false}
 use mathlib.Core.List.{List, [], _∷_}
 use Prim.Native.Nat.{ℕ}
 use lib.IntN.{pos}
 use lib.Ieee.{Float, nan, binary64, ofBits}
 use Rattle.ieee.specs.Ops.{f32}
 use Rattle.object.specs.declared.Corners.{Corners}
-use Rattle.object.specs.declared.Detection.{Detection}
 use Rattle.lapjv_walk.specs.Ops.{floats}
 use Rattle.lapjv_walk.specs.Lapjv.{lapjv}
 use Rattle.pair.specs.Overlap.{overlapOf}
@@ -19,7 +18,7 @@ use Rattle.history.specs.Uncut.{Dated, oldestBox}
 use Rattle.frame.specs.declared.Settings.{Settings}
 use Rattle.frame.specs.declared.Tracker.{Tracker}
 use Rattle.frame.specs.State.{emptyTracker}
-use Rattle.frame.specs.Frame.{Call, Reply, reports, frameOf}
+use Rattle.frame.specs.Frame.{Call, reports, frameOf}
 
 -- a proof of each
 abbrev pub Each : List (Type 0) → Type 0

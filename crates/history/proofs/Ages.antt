@@ -7,13 +7,13 @@ use Prim.Native.Nat.{ℕ, zero, suc, _+_, _-_, _≤_, _<_}
 use native.Mathlib.Nat.{not-suc-le-zero, eq-or-lt-of-le}
 use native.Mathlib.Omega.{arith}
 use lib.Dec.{leb, eqb}
-use lib.ListN.{getD, take}
+use lib.ListN.{getD}
 use borrow.Author.Tests.{leb-true, leb-false, eqb-false, le-leb, lt-leb, ne-eqb, eq-eqb}
 use Rattle.lists.specs.Lists.{pick, tab}
 use Rattle.lists.proofs.Tab.{tab-ext, getD-tab}
 use Rattle.object.specs.declared.Detection.{Detection}
 use Rattle.strack.specs.declared.LastBox.{LastBox}
-use Rattle.strack.specs.declared.LastBox.the-variants.{Unseen, Seen}
+use Rattle.strack.specs.declared.LastBox.the-variants.{Unseen}
 use Rattle.strack.specs.declared.Kept.{Kept}
 use Rattle.strack.specs.Track.{seenOf, isSeen, keptOf, orBox, shifted, oldestOf}
 use Rattle.history.specs.Uncut.{Dated, boxAt, highest, newestAge, newestBox, boxAgo, oldestBox, previousIn}

@@ -1,29 +1,24 @@
 -- Cutting commutes with birth, predict, a box and a miss, from every replay: the code may keep the last box of the list and eight ages.
 -- Assumes nothing.
 use mathlib.Core.Path.{_≡_, refl, sym, ap, _∙_}
-use mathlib.Core.Bool.{Bool, true, false, not, _&&_}
 use mathlib.Core.Option.{Option, none, some}
-use mathlib.Core.List.{List, [], _∷_, tail}
-use Prim.Native.Nat.{ℕ, zero, suc, _+_, _≤_, _<_}
+use mathlib.Core.List.{List, [], _∷_}
+use Prim.Native.Nat.{ℕ, zero, suc, _+_, _≤_}
 use native.Mathlib.Omega.{arith}
-use native.Mathlib.Numerals.{add-one}
-use Rattle.kalman_filter.specs.declared.Filter.{Filter}
 use Rattle.kalman_filter.specs.declared.DetectBox.{DetectBox}
-use Rattle.kalman_filter.specs.Filter.{updateOf, predictOf}
-use Rattle.kalman_filter.specs.Gap.{replayOf}
+use Rattle.kalman_filter.specs.Filter.{predictOf}
+use Rattle.gap.specs.Gap.{replayOf}
 use Rattle.lists.specs.Lists.{pick}
 use Rattle.object.specs.declared.Detection.{Detection}
 use Rattle.strack.specs.declared.LastBox.{LastBox}
-use Rattle.strack.specs.declared.LastBox.the-variants.{Unseen, Seen}
-use Rattle.strack.specs.declared.ListBox.{ListBox}
+use Rattle.strack.specs.declared.LastBox.the-variants.{Unseen}
 use Rattle.strack.specs.declared.ListBox.the-variants.{Holds}
-use Rattle.strack.specs.declared.Direction.{Direction}
 use Rattle.strack.specs.declared.Track.{Track}
 use Rattle.object.specs.Object.{cornersOf}
 use Rattle.strack.specs.Boxes.{measureOf}
-use Rattle.strack.specs.Track.{noFilter, streakAfter, seenOf, isSeen, orBox, filterAfter, listAfter, savedAfter, freezes, headingFrom, headingOf, kPreviousOf, previousOf, birthOf, trackPredict, trackBox, trackMiss, areaHeld}
-use Rattle.history.specs.Uncut.{Uncut, Saved, Side, atBox, overGap, savedAt, newestAge, newestBox, oldestBox, lastHeld, framesBack, findPreviousBox, kPreviousObs, headingOfUncut, born, predicted, boxed, missed}
-use Rattle.history.specs.Replay.{Line, miss, box, written, replay, cut, keptAt, savedFilter, isSaved, writtenCut, replayCut}
+use Rattle.strack.specs.Track.{streakAfter, seenOf, isSeen, orBox, filterAfter, listAfter, savedAfter, freezes, headingFrom, headingOf, kPreviousOf, previousOf, birthOf, trackPredict, trackBox, trackMiss, areaHeld}
+use Rattle.history.specs.Uncut.{Uncut, Side, atBox, savedAt, lastHeld, framesBack, findPreviousBox, kPreviousObs, headingOfUncut, born, predicted, boxed, missed}
+use Rattle.history.specs.Replay.{Line, miss, box, written, replay, cut, savedFilter, isSaved, writtenCut, replayCut}
 use Rattle.history.specs.Sound.{Phase, never, watched, lost, Sound, misses}
 use Rattle.history.proofs.Ages.{kept-box, kept-miss, oldest-kept, previous-in}
 use Rattle.history.proofs.Sound.{replay-sound}

@@ -1,17 +1,14 @@
 -- A replayed track obeys the state rules that speak of one track; and the claim whole. Assumes nothing.
 use mathlib.Core.Path.{_≡_, refl, sym, ap, _∙_}
-use mathlib.Core.Bool.{Bool, true, false, not, _&&_, Bool·beq}
-use mathlib.Core.Option.{some}
-use mathlib.Core.List.{List, [], _∷_}
-use Prim.Native.Nat.{ℕ, zero, suc, _+_, _≤_, _<_}
+use mathlib.Core.Bool.{Bool, true, false, not, _&&_}
+use Prim.Native.Nat.{ℕ, _+_, _≤_}
 use native.Mathlib.Omega.{arith}
-use lib.Dec.{leb, ltb, eqb}
+use lib.Dec.{eqb}
 use borrow.Author.Tests.{le-leb, lt-ltb, le-ltb, ne-eqb}
-use Rattle.object.specs.declared.Detection.{Detection}
 use Rattle.strack.specs.Track.{isSeen}
-use Rattle.strack.specs.Rules.{holdsList, ownRules}
+use Rattle.strack.specs.Rules.{ownRules}
 use Rattle.history.specs.Uncut.{Uncut, framesBack}
-use Rattle.history.specs.Replay.{Line, replay, cut, isSaved}
+use Rattle.history.specs.Replay.{replay, cut}
 use Rattle.history.specs.Sound.{Phase, never, watched, lost, Sound}
 use Rattle.history.specs.Suffices.{Sufficient, Suffices}
 use Rattle.history.proofs.Sound.{replay-sound}

@@ -1,22 +1,18 @@
 -- Every replay is sound: each step keeps it. Assumes nothing.
-use mathlib.Core.Path.{_≡_, refl, sym, ap, _∙_}
-use mathlib.Core.Bool.{Bool, true, false}
-use mathlib.Core.Option.{Option, none, some}
-use mathlib.Core.List.{List, [], _∷_, tail}
-use Prim.Native.Nat.{ℕ, zero, suc, _+_, _≤_, _<_}
+use mathlib.Core.Path.{refl}
+use mathlib.Core.List.{List, [], _∷_}
+use Prim.Native.Nat.{ℕ, zero, suc, _≤_}
 use native.Mathlib.Omega.{arith}
 use native.Mathlib.Numerals.{add-one}
-use Rattle.kalman_filter.specs.declared.Filter.{Filter}
 use Rattle.kalman_filter.specs.declared.DetectBox.{DetectBox}
 use Rattle.kalman_filter.specs.Filter.{predictOf}
 use Rattle.object.specs.declared.Detection.{Detection}
-use Rattle.strack.specs.declared.LastBox.the-variants.{Unseen}
 use Rattle.object.specs.Object.{cornersOf}
 use Rattle.strack.specs.Boxes.{measureOf}
-use Rattle.strack.specs.Track.{streakAfter, isSeen, areaHeld}
-use Rattle.history.specs.Uncut.{Uncut, Saved, atBox, savedAt, newestAge, newestBox, lastHeld, born, predicted, boxed, missed}
+use Rattle.strack.specs.Track.{streakAfter, areaHeld}
+use Rattle.history.specs.Uncut.{Uncut, born, predicted, boxed, missed}
 use Rattle.history.specs.Replay.{Line, miss, box, written, replay}
-use Rattle.history.specs.Sound.{Phase, never, watched, lost, Sound, misses}
+use Rattle.history.specs.Sound.{Phase, never, watched, lost, Sound}
 use Rattle.history.proofs.Ages.{newest-age-more, newest-more}
 
 streak-falls : (since streak : ℕ) → streakAfter since streak ≤ streak

@@ -1,7 +1,7 @@
 -- What holds of every replayed track: it was never given a box, or it got one in the newest frame, or it is lost since some frames.
 -- Definitions only.
 use mathlib.Core.Path.{_≡_}
-use mathlib.Core.Bool.{Bool, true, false}
+use mathlib.Core.Bool.{true, false}
 use mathlib.Core.Option.{Option, none, some}
 use mathlib.Core.List.{List, [], _∷_}
 use Prim.Native.Nat.{ℕ, zero, suc, _≤_, _<_}
@@ -10,7 +10,7 @@ use Rattle.kalman_filter.specs.declared.DetectBox.{DetectBox}
 use Rattle.strack.specs.declared.LastBox.the-variants.{Unseen}
 use Rattle.strack.specs.declared.ListBox.the-variants.{Empty}
 use Rattle.strack.specs.Track.{isSeen}
-use Rattle.history.specs.Uncut.{Uncut, Saved, newestAge, newestBox, lastHeld}
+use Rattle.history.specs.Uncut.{Uncut, newestAge, newestBox, lastHeld}
 
 -- n misses on top of a list
 abbrev pub misses : ℕ → List (Option DetectBox) → List (Option DetectBox)

@@ -1,7 +1,7 @@
 -- The claim of this crate: what the code keeps of a track suffices, whatever boxes and misses came. Definitions only.
 use mathlib.Core.Path.{_≡_}
 use mathlib.Core.Bool.{true}
-use mathlib.Core.List.{List, _∷_}
+use mathlib.Core.List.{List}
 use Prim.Native.Nat.{ℕ, _+_, _≤_}
 use Rattle.object.specs.declared.Detection.{Detection}
 use Rattle.strack.specs.Track.{isSeen, previousOf, kPreviousOf, trackPredict}

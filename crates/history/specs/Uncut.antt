@@ -8,15 +8,15 @@ use lib.Dec.{leb, eqb}
 use Rattle.kalman_filter.specs.declared.Filter.{Filter}
 use Rattle.kalman_filter.specs.declared.DetectBox.{DetectBox}
 use Rattle.kalman_filter.specs.Filter.{startOf, predictOf, updateOf}
-use Rattle.kalman_filter.specs.Gap.{replayOf}
+use Rattle.gap.specs.Gap.{replayOf}
 use Rattle.lists.specs.Lists.{pick}
 use Rattle.object.specs.declared.Detection.{Detection}
 use Rattle.strack.specs.declared.LastBox.{LastBox}
-use Rattle.strack.specs.declared.LastBox.the-variants.{Unseen, Seen}
+use Rattle.strack.specs.declared.LastBox.the-variants.{Unseen}
 use Rattle.strack.specs.declared.ListBox.{ListBox}
 use Rattle.strack.specs.declared.ListBox.the-variants.{Empty, Holds}
 use Rattle.strack.specs.declared.Direction.{Direction}
-use Rattle.strack.specs.declared.Direction.the-variants.{Unknown, Known}
+use Rattle.strack.specs.declared.Direction.the-variants.{Unknown}
 use Rattle.object.specs.Object.{cornersOf}
 use Rattle.strack.specs.Boxes.{measureOf}
 use Rattle.strack.specs.Track.{seenOf, isSeen, orBox, areaHeld, streakAfter, headingFrom}

@@ -1,6 +1,5 @@
 pub mod Nans
 pub mod Values
-pub mod Roots
 pub mod RootBits
 pub mod RootsOfPatterns
 pub mod Grid

@@ -15,9 +15,9 @@ use lib.Ieee.Nearest.{nearest-ge}
 use lib.Ieee.Exact.{HasValue, units-val}
 use lib.Ieee.Positive.{positive, positive-of-value, positive-finite}
 use lib.Ieee.Scale.{finite}
-use Rattle.ieee.specs.Roots.{root}
+use Rattle.roots.specs.Roots.{root}
 use Rattle.ieee.specs.Sqrt.{magnitude, radicand, rootRounded, sqrtOf}
-use Rattle.ieee.proofs.Roots.{sq-le, sq-lt, sq-lt-back, cmp-lt, cmp-gt, root-is}
+use Rattle.roots.proofs.Roots.{sq-le, sq-lt, sq-lt-back, cmp-lt, cmp-gt, root-is}
 use Rattle.ieee.proofs.RootBits.{units-fits}
 use Rattle.ieee.proofs.Grid.{digits, grid, no-tie}
 

@@ -12,9 +12,9 @@ use lib.Ieee.Fits.{cond-fits, inf-fits, odd-fits, nearest-le}
 use lib.Ieee.Exact.{units-val}
 use lib.Ieee.Bits.{ofBits-toBits}
 use lib.Ieee.Nearest.{nearest-ge}
-use Rattle.ieee.specs.Roots.{IsRoot, root, nearestRoot}
+use Rattle.roots.specs.Roots.{IsRoot, root, nearestRoot}
 use Rattle.ieee.specs.Sqrt.{rootRounded}
-use Rattle.ieee.proofs.Roots.{sq-lt-back, root-is, root-scaled, root-small, nearestRoot-is, cmp-scale, cmp-lt}
+use Rattle.roots.proofs.Roots.{sq-lt-back, root-is, root-scaled, root-small, nearestRoot-is, cmp-scale, cmp-lt}
 use Rattle.ieee.proofs.Values.{toBits-pattern, size-exact, pattern-is}
 
 -- ---- the leading digits

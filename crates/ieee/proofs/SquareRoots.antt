@@ -11,7 +11,7 @@ use lib.Ieee.{Float, nan, inf, fin, binary32, up, down, fits, lt}
 use lib.Ieee.Positive.{positive}
 use lib.Ieee.Scale.{finite}
 use Rattle.ieee.specs.Sqrt.{magnitude, radicand, inUnits, Below, Nearer, rootRounded, sqrtOf, SquareRoot}
-use Rattle.ieee.proofs.Roots.{sq-le}
+use Rattle.roots.proofs.Roots.{sq-le}
 use Rattle.ieee.proofs.Values.{same-magnitude}
 use Rattle.ieee.proofs.RootsOfPatterns.{not-a-number}
 use Rattle.ieee.proofs.Grid.{magnitude-zero}

@@ -1,5 +1,4 @@
 pub mod Ops
-pub mod Roots
 pub mod Patterns
 pub mod Sqrt
 pub mod Acos

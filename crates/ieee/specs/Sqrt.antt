@@ -9,7 +9,7 @@ use lib.Dec.{T, eqb}
 use lib.Ieee.{Float, nan, inf, fin, binary32, prec, low, up, down, size, nearest, units, fits, lt}
 use lib.Ieee.Positive.{positive}
 use lib.Ieee.Scale.{finite}
-use Rattle.ieee.specs.Roots.{root}
+use Rattle.roots.specs.Roots.{root}
 
 -- ---- the result
 

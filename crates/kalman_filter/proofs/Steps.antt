@@ -1,14 +1,12 @@
 -- Each step of the filter by the steps that it is made of, left shut. Assumes nothing.
-use Prim.Native.Nat.{ℕ, zero, suc}
 use mathlib.Core.Path.{_≡_, refl}
 use mathlib.Core.List.{List}
 use mathlib.Core.Bool.{true, false}
-use lib.Ieee.{Float, mul, div, binary32}
-use Rattle.ieee.specs.Sqrt.{sqrtOf}
-use Rattle.matrix.specs.declared.Inverse.{Inverse}
-use Rattle.matrix.specs.Matrix.{product, sum, difference, transpose, identity, inverse}
+use lib.Ieee.{Float}
+use Rattle.matrix.specs.Matrix.{product, sum, difference, transpose}
+use Rattle.inverse.specs.declared.Inverse.{Inverse}
+use Rattle.inverse.specs.Inverse.{identity, inverse}
 use Rattle.kalman_filter.specs.Filter.{fMatrix, hMatrix, rMatrix, qMatrix, measured, predictOf, inverseOrIdentity, gainOf, josephOf, updateOf}
-use Rattle.kalman_filter.specs.Gap.{widthOf, heightOf, virtualOf, virtuals, replayOf}
 use Rattle.kalman_filter.specs.declared.Filter.{Filter}
 use Rattle.kalman_filter.specs.declared.DetectBox.{DetectBox}
 
@@ -45,28 +43,3 @@ inverse-used s i e h = rw (← e, h) refl
 pub identity-used : (s : List Float) (i : Inverse) → i ≡ inverse s → i .exists ≡ false → inverseOrIdentity s ≡ identity 4
 unfolding inverseOrIdentity
 identity-used s i e h = rw (← e, h) refl
-
-pub width-is : (z : DetectBox) → widthOf z ≡ sqrtOf (mul binary32 (z .s) (z .r))
-unfolding widthOf
-width-is z = refl
-
-pub height-is : (z : DetectBox) → heightOf z ≡ sqrtOf (div binary32 (z .s) (z .r))
-unfolding heightOf
-height-is z = refl
-
-module _ (box : ℕ → DetectBox) (t : ℕ) (f : Filter) where
-  pub virtuals-none : virtuals box zero t f ≡ f
-  unfolding virtuals
-  virtuals-none = refl
-
-  pub virtuals-one : virtuals box (suc zero) t f ≡ updateOf (box t) f
-  unfolding virtuals
-  virtuals-one = refl
-
-  pub virtuals-more : (n : ℕ) → virtuals box (suc (suc n)) t f ≡ virtuals box (suc n) (suc t) (predictOf (updateOf (box t) f))
-  unfolding virtuals
-  virtuals-more n = refl
-
-pub replay-is : (gap : ℕ) (a b : DetectBox) (f : Filter) → replayOf gap a b f ≡ updateOf b (virtuals (virtualOf gap a b) gap 1 f)
-unfolding replayOf
-replay-is gap a b f = refl

@@ -1,4 +1,4 @@
--- Document 01, item 4: the filter's constants, its start, predict and update. Products, sums and the inverse are crate `matrix`'s; chains associate left.
+-- Document 01, item 4: the filter's constants, its start, predict and update. Products and sums are crate `matrix`'s, identity and inverse crate `inverse`'s; chains associate left.
 -- Definitions only.
 use mathlib.Core.Bool.{Bool, true, false, _||_}
 use mathlib.Core.List.{List, [], _∷_}
@@ -8,8 +8,8 @@ use lib.Ieee.{Float, nan, ofBits}
 use lib.ListN.{getD, length}
 use Rattle.ieee.specs.Ops.{f32}
 use Rattle.lists.specs.Lists.{pick, tab}
-use Rattle.matrix.specs.declared.Inverse.{Inverse}
-use Rattle.matrix.specs.Matrix.{product, sum, difference, transpose, identity, inverse}
+use Rattle.matrix.specs.Matrix.{product, sum, difference, transpose}
+use Rattle.inverse.specs.Inverse.{identity, inverse}
 use Rattle.kalman_filter.specs.declared.Filter.{Filter}
 use Rattle.kalman_filter.specs.declared.DetectBox.{DetectBox}
 

@@ -1,3 +1,1 @@
 pub mod Filter
-pub mod Gap
-pub mod Line

@@ -1,10 +1,7 @@
-// The Kalman filter of kalman_filter.rs (document 01, item 4): its start, predict, update, and the replay of a gap.
+// The Kalman filter of kalman_filter.rs (document 01, item 4): its start, predict and update. The replay of a gap is crate `gap`.
 ghost use mathlib.Core.Path.{_≡_};
-ghost use Prim.Native.Nat.{_≤_};
 ghost use Rattle.matrix.specs.Matrix.{product, transpose};
 ghost use Rattle.kalman_filter.specs.Filter.{rMatrix, startOf, predictOf, inverseOrIdentity, gainOf, josephOf, updateOf};
-ghost use Rattle.kalman_filter.specs.Gap.{replayOf};
-ghost use Rattle.kalman_filter.specs.Line.{lineOf, boxAt};
 
 // The 7 state numbers (x, y, area, ratio, and the speeds of the first three) and their covariance, row after row.
 // C and Rust pass it too, in the image of a state.
@@ -149,7 +146,7 @@ pub fn predict(f: Filter) -> Filter
 fn inverse_or_identity(s: [f32; 16]) -> [f32; 16]
     ensures { λ r. ⌜ r ≡ inverseOrIdentity s ⌝ }
 {
-    let i = matrix::try_inverse(s);
+    let i = inverse::try_inverse(s);
     if i.exists {
         let e = i.entries;
         return e;
@@ -239,76 +236,4 @@ pub fn freeze(f: Filter) -> Filter
     ensures { λ r. ⌜ r ≡ f ⌝ }
 {
     f
-}
-
-// Where a line of virtual boxes starts, and its change a frame.
-struct Line {
-    x: f32,
-    y: f32,
-    w: f32,
-    h: f32,
-    dx: f32,
-    dy: f32,
-    dw: f32,
-    dh: f32,
-}
-
-fn line_between(from: DetectBox, to: DetectBox, gap: u32) -> Line
-    requires { ⌜ gap ≤ 16777216 ⌝ }
-    ensures { λ r. ⌜ r ≡ lineOf gap from to ⌝ }
-{
-    let g = gap as f32;
-    let w = ieee::sqrt(from.s * from.r);
-    let h = ieee::sqrt(from.s / from.r);
-    let w2 = ieee::sqrt(to.s * to.r);
-    let h2 = ieee::sqrt(to.s / to.r);
-    let dx = (to.x - from.x) / g;
-    let dy = (to.y - from.y) / g;
-    let dw = (w2 - w) / g;
-    let dh = (h2 - h) / g;
-    Line {
-        x: from.x,
-        y: from.y,
-        w,
-        h,
-        dx,
-        dy,
-        dw,
-        dh,
-    }
-}
-
-// The virtual box t frames along.
-fn virtual_box(l: Line, t: u32) -> DetectBox
-    requires { ⌜ t ≤ 16777216 ⌝ }
-    ensures { λ r. ⌜ r ≡ boxAt l t ⌝ }
-{
-    let t = t as f32;
-    let w = l.w + t * l.dw;
-    let h = l.h + t * l.dh;
-    DetectBox {
-        x: l.x + t * l.dx,
-        y: l.y + t * l.dy,
-        s: w * h,
-        r: w / h,
-    }
-}
-
-// The filter f, saved when boxes stopped coming, brought up to the box that came again after gap frames.
-pub fn replay(f: Filter, from: DetectBox, to: DetectBox, gap: u32) -> Filter
-    requires { ⌜ gap ≤ 16777216 ⌝ }
-    ensures { λ r. ⌜ r ≡ replayOf gap from to f ⌝ }
-{
-    let l = line_between(from, to, gap);
-    let mut k = f;
-    let mut t = 1;
-    while t <= gap {
-        let v = virtual_box(l, t);
-        k = update(k, v);
-        if t < gap {
-            k = predict(k);
-        }
-        t += 1;
-    }
-    update(k, to)
 }

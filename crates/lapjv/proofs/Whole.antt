@@ -1,6 +1,6 @@
 -- The whole call from what its four steps left, and what sizes that fit mean. Assumes nothing.
-use mathlib.Core.Path.{refl, subst, _≡_}
-use mathlib.Core.Bool.{_&&_, Bool, false, true}
+use mathlib.Core.Path.{subst, _≡_}
+use mathlib.Core.Bool.{_&&_, true}
 use mathlib.Core.List.{List}
 use Prim.Native.Nat.{_*_, _<_, ℕ, _≤_}
 use borrow.Author.Tests.{eqb-true, ltb-true}
@@ -12,7 +12,7 @@ use Rattle.lapjv_walk.specs.Holds.{Left}
 use Rattle.lapjv_walk.specs.Lapjv.{Ca, caDense, lapjv, twoPasses}
 use Rattle.lapjv_walk.specs.Ops.{Ops}
 use Rattle.lapjv_walk.proofs.Carr.{pass-keeps}
-use Rattle.lapjv_walk.proofs.Cases.{and-left, and-right, never}
+use Rattle.lapjv_walk.proofs.Cases.{and-left, and-right}
 use Rattle.lapjv_walk.proofs.Whole.{ccrt-left}
 use Rattle.lapjv.specs.Answer.{fits}
 

@@ -13,8 +13,7 @@ ghost use lib.Ieee.{Float};
 ghost use lib.ListN.{length};
 ghost use Rattle.lapjv_walk.specs.Marks.{numAt};
 ghost use Rattle.lapjv_walk.specs.Ops.{floats};
-ghost use Rattle.lapjv_walk.specs.Ccrt.{Kept};
-ghost use Rattle.lapjv_walk.specs.Carr.{Two, Carr, two, carrSeat, carrStep, carrDence};
+ghost use Rattle.lapjv_walk.specs.Carr.{two, carrSeat, carrStep, carrDence};
 ghost use Rattle.lapjv_walk.specs.Holds.{Square, Marked, Left};
 
 const LARGE: f64 = 1000000.0;

@@ -13,7 +13,7 @@ ghost use Rattle.lists.specs.Lists.{tab};
 ghost use Rattle.lapjv_walk.specs.Marks.{free};
 ghost use Rattle.lapjv_walk.specs.Ops.{floats};
 ghost use Rattle.lapjv_walk.specs.Loops.{walk};
-ghost use Rattle.lapjv_walk.specs.Ccrt.{Reduce, Assign, Collect, Kept, reduceRow, assignFrom, otherMin, collectStep, ccrtDense};
+ghost use Rattle.lapjv_walk.specs.Ccrt.{reduceRow, assignFrom, otherMin, collectStep, ccrtDense};
 ghost use Rattle.lapjv_walk.specs.Holds.{Square, AssignOk, Marked};
 
 const LARGE: f64 = 1000000.0;

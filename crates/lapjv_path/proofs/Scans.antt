@@ -3,10 +3,9 @@ use mathlib.Core.Path.{ap, refl, subst, sym, _∙_, _≡_}
 use mathlib.Core.Bool.{false, true}
 use mathlib.Core.List.{List}
 use mathlib.Core.Logic.{inl, inr, _⊎_}
-use Prim.Native.Nat.{_+_, _-_, _<_, suc, ℕ, _≤_}
+use Prim.Native.Nat.{_+_, _-_, _<_, suc, ℕ}
 use native.Mathlib.Omega.{arith}
 use lib.IntN.{ℤ}
-use Rattle.lists.specs.Lists.{pick}
 use Rattle.lapjv_walk.specs.Marks.{free, index, isFree, markAt, numAt}
 use Rattle.lapjv_walk.specs.Ops.{costAt, Ops, valAt}
 use Rattle.lapjv_walk.specs.Loops.{runs}

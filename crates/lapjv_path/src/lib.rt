@@ -11,7 +11,7 @@ ghost use lib.IntN.{pos};
 ghost use lib.ListN.{length};
 ghost use Rattle.lapjv_walk.specs.Marks.{free};
 ghost use Rattle.lapjv_walk.specs.Ops.{floats};
-ghost use Rattle.lapjv_walk.specs.Path.{Scan, Find, findDense, scanRow, scanDense, lastFree, searchFrom, searchTurn, searchPath, raise, findPathDense};
+ghost use Rattle.lapjv_walk.specs.Path.{findDense, scanRow, scanDense, lastFree, searchFrom, searchTurn, searchPath, raise, findPathDense};
 ghost use Rattle.lapjv_walk.specs.Holds.{Square, Apart, Marked, Held, Room};
 
 // Brings the columns at the least distance to lo and behind it, and returns their end.

@@ -1,5 +1,5 @@
 -- Document 01, item 2, `find_dense`, `scan_dense` and `find_path_dense`: the shortest way from a free row to a free column. Definitions only.
-use mathlib.Core.Bool.{Bool, true, false, not, _&&_}
+use mathlib.Core.Bool.{Bool, not, _&&_}
 use mathlib.Core.List.{List}
 use Prim.Native.Nat.{ℕ, _+_, _-_}
 use lib.Dec.{eqb}

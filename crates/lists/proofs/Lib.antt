@@ -1,3 +1,4 @@
 pub mod Tab
 pub mod Keep
 pub mod All
+pub mod Fill

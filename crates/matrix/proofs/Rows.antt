@@ -12,7 +12,7 @@ use borrow.Rule.Slice.PartMut.{putMid}
 use Rattle.lists.specs.Lists.{tab}
 use Rattle.lists.proofs.Tab.{length-tab, getD-tab, filled-length, tab-append, tab-ext}
 use Rattle.matrix.specs.Matrix.{sumTo, term, entryOf}
-use Rattle.matrix.proofs.Fill.{Filled}
+use Rattle.lists.proofs.Fill.{Filled}
 
 -- a place in a matrix of k rows and m columns
 pub in-matrix : (k m l j : ℕ) → l < k → j < m → l * m + j < k * m

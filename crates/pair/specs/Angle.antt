@@ -1,5 +1,5 @@
 -- Document 01, item 3: the angle term of an object and a track. Definitions only.
-use mathlib.Core.Bool.{Bool, cond}
+use mathlib.Core.Bool.{cond}
 use lib.Ieee.{Float, binary32, add, sub, mul, div, lt}
 use Rattle.ieee.specs.Ops.{f32, π, half-π, clampOf, absOf}
 use Rattle.ieee.specs.Sqrt.{sqrtOf}

@@ -1,5 +1,5 @@
 -- Document 01, item 3: the overlap of two boxes (intersection over union), as `iou_batch` has each entry. Definitions only.
-use mathlib.Core.Bool.{Bool, cond}
+use mathlib.Core.Bool.{cond}
 use lib.Ieee.{Float, binary32, add, sub, mul, div, lt}
 use Rattle.ieee.specs.Ops.{f32, maxOf, minOf}
 use Rattle.object.specs.declared.Corners.{Corners}

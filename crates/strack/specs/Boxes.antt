@@ -1,5 +1,4 @@
 -- Document 01, item 5: a box measured and converted back, and the direction from one box to another. Definitions only.
-use Prim.Native.Nat.{ℕ}
 use lib.Ieee.{Float, binary32, add, sub, mul, div, ofBits}
 use Rattle.ieee.specs.Ops.{f32}
 use Rattle.ieee.specs.Sqrt.{sqrtOf}

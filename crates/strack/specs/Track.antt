@@ -1,6 +1,6 @@
 -- Document 01, items 4 and 5, on the track as the code keeps it: birth, predict, a box, a miss, and the boxes before. Definitions only.
 use mathlib.Core.Bool.{Bool, true, false, not, _&&_}
-use mathlib.Core.List.{List, [], _∷_}
+use mathlib.Core.List.{List, _∷_}
 use Prim.Native.Nat.{ℕ, zero, suc, _+_}
 use lib.Ieee.{Float, binary32, nan, add, le, ofBits}
 use lib.ListN.{getD, set, take, replicate}
@@ -8,7 +8,7 @@ use Rattle.ieee.specs.Ops.{f32}
 use Rattle.kalman_filter.specs.declared.Filter.{Filter}
 use Rattle.kalman_filter.specs.declared.DetectBox.{DetectBox}
 use Rattle.kalman_filter.specs.Filter.{startOf, predictOf, updateOf}
-use Rattle.kalman_filter.specs.Gap.{replayOf}
+use Rattle.gap.specs.Gap.{replayOf}
 use Rattle.lists.specs.Lists.{pick}
 use Rattle.object.specs.declared.Detection.{Detection}
 use Rattle.object.specs.declared.Corners.{Corners}
@@ -17,7 +17,7 @@ use Rattle.strack.specs.declared.LastBox.the-variants.{Unseen, Seen}
 use Rattle.strack.specs.declared.ListBox.{ListBox}
 use Rattle.strack.specs.declared.ListBox.the-variants.{Empty, Holds}
 use Rattle.strack.specs.declared.Direction.{Direction}
-use Rattle.strack.specs.declared.Direction.the-variants.{Unknown, Known}
+use Rattle.strack.specs.declared.Direction.the-variants.{Unknown}
 use Rattle.strack.specs.declared.Kept.{Kept}
 use Rattle.strack.specs.declared.Track.{Track}
 use Rattle.object.specs.Object.{cornersOf}

@@ -300,7 +300,7 @@ fn regain(saved: Filter, list: ListBox, z: DetectBox, gap: u32) -> Filter
 {
     match list {
         ListBox::Empty => kalman_filter::update(saved, z),
-        ListBox::Holds(from) => kalman_filter::replay(saved, from, z, gap),
+        ListBox::Holds(from) => gap::replay(saved, from, z, gap),
     }
 }
 

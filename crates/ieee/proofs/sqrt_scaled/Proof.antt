@@ -5,7 +5,7 @@ use mathlib.Core.Path.{_≡_, refl, sym, ap, subst, _∙_}
 use native.Mathlib.Nat.{mul-le-mul-left}
 use native.Mathlib.Omega.{arith}
 use lib.Ieee.{binary32, ofBits}
-use Rattle.ieee.specs.Roots.{nearestRoot}
+use Rattle.roots.specs.Roots.{nearestRoot}
 use Rattle.ieee.specs.Patterns.{Normalised}
 use Rattle.ieee.specs.Sqrt.{rootRounded}
 use Rattle.ieee.proofs.RootBits.{rounded-bits, rounded-small, halved}

@@ -1,7 +1,7 @@
 -- `kalman_filter::inverse_or_identity` meets its contract. Assumes nothing.
 use borrow.Author.Needs.{needs}
 use mathlib.Core.Path.{sym}
-use Rattle.matrix.specs.Matrix.{identity}
+use Rattle.inverse.specs.Inverse.{identity}
 use Rattle.kalman_filter.proofs.Steps.{inverse-used, identity-used}
 use Rattle.kalman_filter.proofs.inverse_or_identity.Statement.{statement}
 use Rattle.kalman_filter.proofs.inverse_or_identity.Tie as tie

@@ -1,7 +1,7 @@
 -- `kalman_filter::joseph` meets its contract. Assumes nothing.
 use borrow.Author.Needs.{needs}
 use mathlib.Core.Path.{sym}
-use Rattle.matrix.specs.Matrix.{identity}
+use Rattle.inverse.specs.Inverse.{identity}
 use Rattle.kalman_filter.specs.Filter.{hMatrix}
 use Rattle.kalman_filter.proofs.Steps.{joseph-is}
 use Rattle.kalman_filter.proofs.joseph.Statement.{statement}

@@ -1,7 +1,6 @@
 -- `lapjv_path::scan_dense` meets its contract. Assumes nothing.
 use mathlib.Core.Path.{ap, refl, sym, _∙_, _≡_}
-use mathlib.Core.Bool.{false, true}
-use Prim.Native.Nat.{_+_, _-_, _<_, ℕ, _≤_}
+use Prim.Native.Nat.{_+_, _-_, _<_, _≤_}
 use borrow.Author.Tests.{not-false, not-true}
 use denote.Ref.{now}
 use lib.Ieee.{Float}
@@ -9,10 +8,10 @@ use lib.ListN.{length}
 use mir.Syntax.{w64}
 use mir.ValLaws.{toZ-ofZ}
 use native.Mathlib.Omega.{arith}
-use Rattle.lapjv_walk.specs.Marks.{free, index, isFree, markAt, numAt}
+use Rattle.lapjv_walk.specs.Marks.{free, isFree, markAt, numAt}
 use Rattle.lapjv_walk.specs.Ops.{floats}
 use Rattle.lapjv_walk.specs.Holds.{Seat}
-use Rattle.lapjv_walk.specs.Path.{Scan, scanTurn}
+use Rattle.lapjv_walk.specs.Path.{Scan}
 use Rattle.lapjv_walk.proofs.Search.{scan≡}
 use Rattle.lapjv_path.proofs.Scans.{lo-hi, next-column, next-row, Scans, scans-done, scans-first, scans-found, scans-on, turn-held, turn-is}
 use Rattle.lapjv_path.proofs.scan_dense.Statement.{statement}

@@ -5,7 +5,7 @@ use native.Mathlib.Omega.{arith}
 use mathlib.Core.Path.{refl}
 use lib.Ieee.{nan}
 use lib.ListN.{length, getD}
-use Rattle.matrix.proofs.Fill.{Filled, filled-none, filled-more, filled-all}
+use Rattle.lists.proofs.Fill.{Filled, filled-none, filled-more, filled-all}
 use Rattle.matrix.proofs.Rows.{in-matrix}
 use Rattle.matrix.proofs.column.Statement.{statement}
 use Rattle.matrix.proofs.column.Tie as tie

@@ -5,7 +5,7 @@ use mathlib.Core.Path.{refl, ap, sym, _∙_}
 use lib.Ieee.{nan}
 use lib.ListN.{length, getD}
 use Rattle.lists.specs.Lists.{tab}
-use Rattle.matrix.proofs.Fill.{Filled, filled-none, filled-more, filled-all, tab-getD}
+use Rattle.lists.proofs.Fill.{Filled, filled-none, filled-more, filled-all, tab-getD}
 use Rattle.matrix.proofs.copy.Statement.{statement}
 use Rattle.matrix.proofs.copy.Tie as tie
 

@@ -4,7 +4,7 @@ use Prim.Native.Nat.{_-_}
 use mathlib.Core.Path.{refl}
 use lib.Ieee.{nan, sub, binary32}
 use lib.ListN.{length, getD}
-use Rattle.matrix.proofs.Fill.{Filled, filled-none, filled-more, filled-all}
+use Rattle.lists.proofs.Fill.{Filled, filled-none, filled-more, filled-all}
 use Rattle.matrix.specs.Matrix.{difference}
 use Rattle.matrix.proofs.difference.Statement.{statement}
 use Rattle.matrix.proofs.difference.Tie as tie

@@ -9,7 +9,7 @@ use lib.ListN.{length}
 use Rattle.lists.specs.Lists.{tab}
 use Rattle.lists.proofs.Tab.{length-tab}
 use Rattle.matrix.specs.Matrix.{entryOf, product}
-use Rattle.matrix.proofs.Fill.{Filled, filled-none, filled-all}
+use Rattle.lists.proofs.Fill.{Filled, filled-none, filled-all}
 use Rattle.matrix.proofs.Rows.{row-inside, part-length, row-places, filled-row}
 use Rattle.matrix.proofs.product_by.Statement.{statement}
 use Rattle.matrix.proofs.product_by.Tie as tie

@@ -4,7 +4,7 @@ use Prim.Native.Nat.{_-_}
 use mathlib.Core.Path.{refl}
 use lib.Ieee.{nan, mul, binary32}
 use lib.ListN.{length, getD}
-use Rattle.matrix.proofs.Fill.{Filled, filled-none, filled-more, filled-all}
+use Rattle.lists.proofs.Fill.{Filled, filled-none, filled-more, filled-all}
 use Rattle.matrix.proofs.row_first.Statement.{statement}
 use Rattle.matrix.proofs.row_first.Tie as tie
 

@@ -4,7 +4,7 @@ use Prim.Native.Nat.{_-_}
 use mathlib.Core.Path.{ap}
 use lib.Ieee.{Float, nan, add, mul, binary32}
 use lib.ListN.{length, getD}
-use Rattle.matrix.proofs.Fill.{Filled, filled-none, filled-more, filled-next, filled-all}
+use Rattle.lists.proofs.Fill.{Filled, filled-none, filled-more, filled-next, filled-all}
 use Rattle.matrix.proofs.row_more.Statement.{statement}
 use Rattle.matrix.proofs.row_more.Tie as tie
 

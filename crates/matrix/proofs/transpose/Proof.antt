@@ -8,7 +8,7 @@ use lib.Ieee.{Float, nan}
 use lib.ListN.{length, getD}
 use Rattle.lists.specs.Lists.{tab}
 use Rattle.matrix.specs.Matrix.{transpose}
-use Rattle.matrix.proofs.Fill.{Filled, filled-none, filled-all}
+use Rattle.lists.proofs.Fill.{Filled, filled-none, filled-all}
 use Rattle.matrix.proofs.Rows.{row-inside, part-length, column-places, filled-row}
 use Rattle.matrix.proofs.transpose.Statement.{statement}
 use Rattle.matrix.proofs.transpose.Tie as tie

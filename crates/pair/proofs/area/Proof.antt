@@ -1,5 +1,4 @@
 -- `pair::area` meets its contract. Assumes nothing.
-use borrow.Author.Needs.{needs}
 use mathlib.Core.Path.{refl}
 use Rattle.pair.specs.Overlap.{areaOf}
 use Rattle.pair.proofs.area.Statement.{statement}

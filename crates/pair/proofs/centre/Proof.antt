@@ -1,5 +1,4 @@
 -- `pair::centre` meets its contract. Assumes nothing.
-use borrow.Author.Needs.{needs}
 use mathlib.Core.Path.{refl}
 use Rattle.pair.specs.Angle.{centreOf}
 use Rattle.pair.proofs.centre.Statement.{statement}

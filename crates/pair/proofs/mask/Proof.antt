@@ -1,5 +1,4 @@
 -- `pair::mask` meets its contract. Assumes nothing.
-use borrow.Author.Needs.{needs}
 use Rattle.pair.specs.Angle.{maskOf}
 use Rattle.pair.proofs.mask.Statement.{statement}
 use Rattle.pair.proofs.mask.Tie as tie
