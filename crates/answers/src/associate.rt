@@ -3,7 +3,7 @@ ghost use mathlib.Core.Path.{_≡_};
 ghost use Prim.Native.Nat.{_+_, _*_, _≤_};
 ghost use lib.ListN.{length};
 use crate::Answer;
-use assoc::Marks;
+use matching::Marks;
 
 // n * k, where n is a count of the table.
 fn times(n: usize, k: usize) -> usize
@@ -21,7 +21,7 @@ fn marks(numbers: &[f32], nd: usize, nt: usize, threshold: f32, inertia: f32) ->
     let directions = boxes + times(nt, 4);
     let previous = directions + times(nt, 2);
     let end = previous + times(nt, 5);
-    assoc::lap::associate(
+    assoc::associate(
         threshold,
         inertia,
         &numbers[0..boxes],
