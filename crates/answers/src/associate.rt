@@ -4,7 +4,7 @@ ghost use Prim.Native.Nat.{_≤_};
 ghost use lib.ListN.{length};
 use crate::Answer;
 use crate::mark_lines;
-use assoc::Marks;
+use matching::Marks;
 
 // The round on numbers that are the threshold, the inertia, the objects, the predicted boxes, the directions and the previous boxes.
 fn round(numbers: &[f32], nd: usize, nt: usize) -> Marks
@@ -13,7 +13,7 @@ fn round(numbers: &[f32], nd: usize, nt: usize) -> Marks
     let boxes = 2 + nd * 5;
     let directions = boxes + nt * 4;
     let previous = directions + nt * 2;
-    assoc::lap::associate(
+    assoc::associate(
         numbers[0],
         numbers[1],
         &numbers[2..],

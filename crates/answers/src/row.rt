@@ -2,7 +2,7 @@
 ghost use Prim.Native.Nat.{_<_};
 use crate::Answer;
 use kalman_filter::DetectBox;
-use matrix::Inverse;
+use inverse::Inverse;
 use object::Corners;
 use strack::Direction;
 

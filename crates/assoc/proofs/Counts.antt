@@ -6,12 +6,11 @@ use Prim.Native.Nat.{ℕ, zero, suc, _+_, _≤_, _<_}
 use native.Mathlib.Nat.{not-suc-le-zero, le-of-suc-le-suc, eq-or-lt-of-le}
 use native.Mathlib.Omega.{arith}
 use lib.Dec.{ltb}
-use lib.IntN.{ℤ, pos}
+use lib.IntN.{pos}
 use borrow.Author.Tests.{ltb-true, ltb-false}
-use Rattle.lapjv_walk.specs.Marks.{free}
 use Rattle.lapjv_walk.proofs.Cases.{pos-inj, pos-free}
 use Rattle.lists.specs.Lists.{pick}
-use Rattle.assoc.specs.Matching.{countOf, fullest, passing}
+use Rattle.matching.specs.Matching.{countOf, fullest, passing}
 
 pub fullest-most : (f : ℕ → ℕ) (n i : ℕ) → i < n → f i ≤ fullest f n
 fullest-most f zero i h = absurd (not-suc-le-zero h)

@@ -18,12 +18,12 @@ use Rattle.lapjv_walk.specs.Marks.{free, isFree, index, markAt}
 use Rattle.object.specs.declared.Corners.{Corners}
 use Rattle.object.specs.declared.Detection.{Detection}
 use Rattle.pair.specs.Angle.{Step}
-use Rattle.assoc.specs.Associate.{overlaps, angleTerm, combined}
-use Rattle.assoc.specs.Paired.{Paired}
-use Rattle.assoc.specs.Matching.{Matrix, aboveOf, countOf, fullest, shortcut, passing, larger, costsOf, someAbove, assigned, keptWhere}
-use Rattle.assoc.specs.Cells.{overlapCells, entryAt}
-use Rattle.assoc.proofs.Loops.{cell-inside}
-use Rattle.assoc.proofs.Rows.{row-of, column-of}
+use Rattle.matching.specs.Associate.{overlaps, angleTerm, combined}
+use Rattle.matching.specs.Paired.{Paired}
+use Rattle.matching.specs.Matching.{Matrix, aboveOf, countOf, fullest, shortcut, passing, larger, costsOf, someAbove, assigned, keptWhere}
+use Rattle.matching.specs.Cells.{overlapCells, entryAt}
+use Rattle.matching.proofs.Loops.{cell-inside}
+use Rattle.matching.proofs.Rows.{row-of, column-of}
 
 abbrev pub Same : ℕ → ℕ → Matrix → Matrix → Type 0
 Same nd nt m m′ = (i j : ℕ) → i < nd → j < nt → m i j ≡ m′ i j

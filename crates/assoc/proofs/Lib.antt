@@ -2,9 +2,6 @@ pub mod NeverNan
 pub mod AtOrAbove
 pub mod Counts
 pub mod Matching
-pub mod Loops
-pub mod Rows
 pub mod Inside
-pub mod Marking
 pub mod Split
 pub mod Rounds

@@ -2,30 +2,28 @@
 -- For any numbers and any threshold but NaN. Assumes nothing.
 use mathlib.Core.Path.{_≡_, refl, sym, ap, subst, _∙_}
 use mathlib.Core.Bool.{Bool, true, false, not, _&&_}
-use mathlib.Core.List.{List, [], _∷_}
-use Prim.Native.Nat.{ℕ, zero, suc, _+_, _*_, _≤_, _<_}
-use native.Mathlib.Nat.{not-suc-le-zero}
+use mathlib.Core.List.{List}
+use Prim.Native.Nat.{ℕ, zero, suc, _<_}
 use native.Mathlib.Omega.{arith}
 use lib.Dec.{T, ltb, eqb}
-use lib.IntN.{ℤ, pos, negsuc}
+use lib.IntN.{ℤ, pos}
 use lib.Ieee.{Float, lt, le, isNan}
-use lib.ListN.{length}
-use borrow.Author.Tests.{ltb-true, ltb-false, eqb-true, not-true}
+use borrow.Author.Tests.{ltb-true, eqb-true, not-true}
 use Rattle.object.specs.declared.Corners.{Corners}
 use Rattle.object.specs.declared.Detection.{Detection}
 use Rattle.object.specs.Object.{cornersOf}
 use Rattle.lapjv_walk.specs.Marks.{free, isFree, index, markAt}
 use Rattle.lapjv_walk.specs.Ops.{floats}
 use Rattle.lapjv_walk.specs.Lapjv.{lapjv, OneToOne, Sits}
-use Rattle.lapjv_walk.proofs.Cases.{pos-inj, pos-free, and-left, and-right, never}
+use Rattle.lapjv_walk.proofs.Cases.{pos-inj, pos-free, and-right}
 use Rattle.lapjv_walk.proofs.Whole.{one-to-one}
 use Rattle.lists.specs.Lists.{pick, tab}
 use Rattle.lists.proofs.Tab.{length-tab, getD-tab}
-use Rattle.pair.specs.Overlap.{overlapOf}
 use Rattle.pair.specs.Angle.{Step}
-use Rattle.assoc.specs.Matching.{Matrix, Pattern, aboveOf, countOf, fullest, shortcut, passing, larger, costsOf, within, assigned, keptWhere, matchOrLapjv, matched, rematched, someAbove, laterRound}
-use Rattle.assoc.specs.Associate.{overlaps, combined, associate, reassociate}
-use Rattle.assoc.specs.Paired.{Paired, Fair}
+use Rattle.matching.specs.Matching.{Matrix, Pattern, aboveOf, countOf, fullest, shortcut, passing, larger, costsOf, within, assigned, keptWhere, matchOrLapjv, matched, rematched, someAbove, laterRound}
+use Rattle.matching.specs.Associate.{overlaps, combined, associate, reassociate}
+use Rattle.matching.specs.Paired.{Paired, Fair}
+use Rattle.assign.proofs.Marking.{larger-left}
 use Rattle.assoc.proofs.Counts.{fullest-most, only-one, passing-is}
 use Rattle.assoc.proofs.AtOrAbove.{kept-pair}
 
@@ -70,13 +68,6 @@ module _ (nd nt : ℕ) (passes : Float → Bool) (m : Matrix) (marks : List ℤ)
       rw (ap index (kept-mark i j q)) at t
 
 -- ---- the assignment
-
-pub larger-left : (a b : ℕ) → a ≤ larger a b
-larger-left a b = go (ltb a b) refl
-  where
-    go : (t : Bool) → ltb a b ≡ t → a ≤ pick t b a
-    go true e = let l : a < b = ltb-true a b e in omega arith
-    go false e = omega arith
 
 module _ (nd nt : ℕ) (m : Matrix) where
   abbrev x′ : List ℤ

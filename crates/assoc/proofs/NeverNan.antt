@@ -5,12 +5,12 @@ use mathlib.Core.Bool.{Bool, true, false, not, cond}
 use Prim.Native.Nat.{ℕ, zero, suc, _+_, _*_, _^_, _-_, _/_, _%_, _≤_, _<_, compare}
 use native.Mathlib.Omega.{arith}
 use native.Mathlib.Nat.{zero-mul, mul-zero, mul-pos}
-use lib.IntN.{ℤ, pos, negsuc}
+use lib.IntN.{ℤ, pos}
 use lib.Dec.{T, eqb, ltb, eqb→eq, ltb→lt, nltb→le}
 use lib.Ieee.{Float, nan, inf, fin, binary32, add, sub, mul, div, neg, lt, isNan, round, units, odd, unlike, up, down, low, emax, prec, size, nearest, ofBits}
 use lib.Ieee.Fits.{up-pos, down-pos}
 use lib.Ieee.Scale.{round-same}
-use Rattle.ieee.specs.Ops.{f32, maxOf, minOf}
+use Rattle.ieee.specs.Ops.{maxOf, minOf}
 use Rattle.object.specs.declared.Corners.{Corners}
 use Rattle.pair.specs.Overlap.{areaOf, sideOf, interOf, shareOf, overlapOf}
 

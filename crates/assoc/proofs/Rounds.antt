@@ -15,11 +15,11 @@ use Rattle.lists.specs.Lists.{pick, tab}
 use Rattle.lapjv_walk.specs.Marks.{free, markAt}
 use Rattle.lapjv_walk.proofs.Fill.{take-fill}
 use Rattle.pair.specs.Angle.{Step}
-use Rattle.assoc.specs.Matching.{Matrix, aboveOf, shortcut, passing, assigned, keptWhere, matchOrLapjv, matched, rematched, someAbove, laterRound}
-use Rattle.assoc.specs.Associate.{overlaps, angleTerm, combined, associate, reassociate}
-use Rattle.assoc.specs.Cells.{overlapCells, entryAt}
-use Rattle.assoc.specs.Paired.{Below, Paired}
-use Rattle.assoc.specs.Split.{Round}
+use Rattle.matching.specs.Matching.{Matrix, aboveOf, shortcut, passing, assigned, keptWhere, matchOrLapjv, matched, rematched, someAbove, laterRound}
+use Rattle.matching.specs.Associate.{overlaps, angleTerm, combined, associate, reassociate}
+use Rattle.matching.specs.Cells.{overlapCells, entryAt}
+use Rattle.matching.specs.Paired.{Below, Paired}
+use Rattle.matching.specs.Split.{Round}
 use Rattle.assoc.proofs.Matching.{kept-paired, assigned-paired, match-paired, associate-fair, reassociate-fair}
 use Rattle.assoc.proofs.Inside.{Same, entry-cells, combined-cells, shortcut-same, someAbove-same, passing-same, assigned-same, kept-same}
 use Rattle.assoc.proofs.Split.{split-of}

@@ -14,9 +14,9 @@ use Rattle.lists.proofs.Keep.{keep-append}
 use Rattle.lists.proofs.All.{map-map, sum-append, sum-map, upFrom-append}
 use Rattle.lapjv_walk.specs.Marks.{isFree, index, markAt}
 use Rattle.lapjv_walk.proofs.Cases.{never, not-both}
-use Rattle.assoc.specs.Matching.{countOf}
-use Rattle.assoc.specs.Paired.{Paired}
-use Rattle.assoc.specs.Split.{Match, names, named, matchesOf, unmatchedDets, unmatchedTrks, times, Parts, Split}
+use Rattle.matching.specs.Matching.{countOf}
+use Rattle.matching.specs.Paired.{Paired}
+use Rattle.matching.specs.Split.{Match, names, named, matchesOf, unmatchedDets, unmatchedTrks, times, Parts, Split}
 
 -- ---- the numbers below n
 

@@ -8,9 +8,9 @@ use Rattle.lapjv_walk.specs.Loops.{turns, walk, runs}
 use Rattle.lapjv_walk.specs.Path.{lastFree, scanMore, searchMore, findStep, findDense, scanHit, raiseStep, raise, scanCol, scanStep, scanRow, scanTurn, scanAll, scanDense, toScan, searchTurn, searchFrom, searchPath, findPathDense}
 use Rattle.pair.specs.Overlap.{areaOf, sideOf, interOf, shareOf, overlapOf}
 use Rattle.pair.specs.Angle.{centreOf, unitOf, stepTo, angleOf, cosineOf, maskOf, termOf}
-use Rattle.assoc.specs.Matching as Matching
-use Rattle.assoc.specs.Matching.{aboveOf, shortcut, costsOf, assigned, keptWhere, matchOrLapjv, matched, rematched, someAbove}
-use Rattle.assoc.specs.Associate.{angleTerm, combined, associate, reassociate}
+use Rattle.matching.specs.Matching as Matching
+use Rattle.matching.specs.Matching.{aboveOf, shortcut, costsOf, assigned, keptWhere, matchOrLapjv, matched, rematched, someAbove}
+use Rattle.matching.specs.Associate.{angleTerm, combined, associate, reassociate}
 use Rattle.kalman_filter.specs.Filter.{startOf, predictOf}
 use Rattle.strack.specs.Boxes.{measureOf, boxOf, middle, directionOf}
 use Rattle.strack.specs.Track.{noFilter, birthOf, areaHeld, trackPredict, stateBox, oldestOf, previousOf, kPreviousOf, headingOf, trackBox, freezes, trackMiss}

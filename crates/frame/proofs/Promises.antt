@@ -1,16 +1,16 @@
 -- What a frame promises beside its definition: reported ids are live and fall, and live ids are old ones followed by the newly issued. Assumes nothing.
-use mathlib.Core.Path.{_≡_, refl, sym, ap, ap₂, subst, _∙_}
+use mathlib.Core.Path.{_≡_, refl, sym, ap, subst, _∙_}
 use mathlib.Core.Bool.{Bool, true, false, _&&_, _||_}
 use mathlib.Core.Option.{Option, none, some}
 use mathlib.Core.List.{List, [], _∷_, _++_, map, append-nil, List·Memᴰ, List·Memᴰ·head, List·Memᴰ·tail}
 use Prim.Native.Nat.{ℕ, zero, suc, _+_, _-_, _≤_, _<_}
 use native.Mathlib.Omega.{arith}
-use lib.Dec.{T, leb, ltb, eqb}
+use lib.Dec.{leb, ltb, eqb}
 use lib.ListN.{length, replicate}
 use lib.Seq.{take-append-seam}
 use borrow.Author.Tests.{leb-true, ltb-true, eqb-true, le-leb}
-use Rattle.lists.specs.Lists.{pick, put, keep, every, upFrom, All}
-use Rattle.lists.proofs.All.{all-map, all-append, map-append, map-map}
+use Rattle.lists.specs.Lists.{pick, put, keep, upFrom, All}
+use Rattle.lists.proofs.All.{all-append, map-append, map-map}
 use Rattle.lists.proofs.Keep.{keep-append}
 use Rattle.lapjv_walk.proofs.Cases.{never}
 use Rattle.object.specs.declared.Refusal.{Refusal}
@@ -23,9 +23,9 @@ use Rattle.frame.specs.declared.Tracker.{Tracker}
 use Rattle.frame.specs.State.{blank, live, stateOf, rising, stateRules}
 use Rattle.frame.specs.Objects.{Obj}
 use Rattle.frame.specs.Rounds.{Slot, Work}
-use Rattle.frame.specs.Frame.{Call, Report, Reply, refused, reports, Out, early, predictTracked, unbroken, predictedTracks, roundsOver, giveAll, births, reportOf, isReported, snocIf, reportsOf, isYoung, isFull, settled, acceptedFrame, frameAt, frameOf}
+use Rattle.frame.specs.Frame.{Call, Report, refused, early, predictTracked, unbroken, predictedTracks, roundsOver, giveAll, births, reportOf, isReported, snocIf, reportsOf, isYoung, isFull, settled, frameAt, frameOf}
 use Rattle.frame.proofs.Rules.{sound}
-use Rattle.frame.specs.Contract.{liveIds, reportedIds, Falling, Subsequence, none, left, taken, Promises}
+use Rattle.frame.specs.Contract.{liveIds, Falling, Subsequence, none, left, taken, Promises}
 
 abbrev idsOf : List Tracked → List ℕ
 idsOf es = map (λ (e : Tracked). e .id) es

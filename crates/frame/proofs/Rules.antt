@@ -1,7 +1,7 @@
 -- What the state rules say, each by its name. Assumes nothing.
 use mathlib.Core.Path.{_≡_}
-use mathlib.Core.Bool.{Bool, true, not, _&&_}
-use Prim.Native.Nat.{ℕ, _*_, _≤_}
+use mathlib.Core.Bool.{true, not, _&&_}
+use Prim.Native.Nat.{_*_, _≤_}
 use lib.Dec.{leb}
 use lib.Ieee.{isNan}
 use borrow.Author.Tests.{leb-true}

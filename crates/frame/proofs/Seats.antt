@@ -1,21 +1,19 @@
 -- A round by marks: no object is lost or doubled, a grant is never taken back, views stay, and each grant passed its test. Assumes nothing.
-use mathlib.Core.Path.{_≡_, refl, sym, ap, ap₂, subst, _∙_}
-use mathlib.Core.Bool.{Bool, true, false}
+use mathlib.Core.Path.{_≡_, refl, sym, ap, subst, _∙_}
 use mathlib.Core.Option.{Option, none, some}
-use mathlib.Core.List.{List, [], _∷_, _++_, map}
+use mathlib.Core.List.{List, [], _∷_, map}
 use mathlib.Core.Logic.{_≢_}
 use Prim.Native.Nat.{ℕ, zero, suc, _+_, _≤_, _<_}
-use native.Mathlib.Nat.{not-suc-le-zero, le-of-suc-le-suc}
 use native.Mathlib.Omega.{arith}
 use lib.IntN.{ℤ, pos, negsuc}
-use lib.ListN.{length, getD, set, length-set, length-map}
+use lib.ListN.{length, set, length-set, length-map}
 use lib.Seq.{getD-set-other, map-set-same}
 use Rattle.lists.specs.Lists.{pick, sumOf, All}
 use Rattle.lists.proofs.All.{sum-set}
 use Rattle.object.specs.declared.Corners.{Corners}
 use Rattle.frame.specs.declared.Settings.{Settings}
 use Rattle.frame.specs.Objects.{Obj, firstClass, spares}
-use Rattle.frame.specs.Rounds.{View, Grant, Slot, Work, emptySlot, firstMarks, firstRound, laterMarks, laterRound, rounds, noSlot, slotAt, grantTo, seat, unlessTaken, leftBy}
+use Rattle.frame.specs.Rounds.{View, Grant, Slot, emptySlot, firstMarks, firstRound, laterMarks, laterRound, rounds, noSlot, slotAt, grantTo, seat, leftBy}
 
 -- t is named by none of the marks
 abbrev pub Unnamed : ℕ → List ℤ → Type 0

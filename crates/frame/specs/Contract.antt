@@ -1,12 +1,10 @@
 -- What the calls promise: the answer, the next state and every cell of both buffers. Definitions only.
 use mathlib.Core.Path.{_≡_}
-use mathlib.Core.Bool.{Bool, true, false}
 use mathlib.Core.List.{List, [], _∷_, _++_, map, List·Memᴰ}
-use Prim.Native.Nat.{ℕ, suc, _+_, _-_, _<_}
+use Prim.Native.Nat.{ℕ, suc, _-_, _<_}
 use lib.Ieee.{Float}
 use lib.ListN.{length}
 use Rattle.lists.specs.Lists.{pick, upFrom, All}
-use Rattle.object.specs.declared.Refusal.{Refusal}
 use Rattle.object.specs.declared.Refusal.the-variants.{BadSetting}
 use Rattle.frame.specs.declared.Settings.{Settings}
 use Rattle.frame.specs.declared.Tracked.{Tracked}
@@ -16,7 +14,7 @@ use Rattle.frame.specs.declared.Outcome.the-variants.{Accepted, Refused}
 use Rattle.frame.specs.declared.Answer.{Answer}
 use Rattle.frame.specs.declared.Made.{Made}
 use Rattle.frame.specs.State.{inRange, live, emptyTracker}
-use Rattle.frame.specs.Frame.{Call, Report, Reply, refused, reports, Out, frameOf, boxesAfter, idsAfter}
+use Rattle.frame.specs.Frame.{Call, Report, Reply, refused, reports, frameOf, boxesAfter, idsAfter}
 
 -- ---- making a tracker
 

@@ -2,10 +2,10 @@
 use mathlib.Core.Bool.{Bool, true, false, not, _&&_, _||_}
 use mathlib.Core.Option.{Option, none, some}
 use mathlib.Core.List.{List, [], _∷_, _++_, map}
-use Prim.Native.Nat.{ℕ, zero, suc, _+_, _*_, _%_}
+use Prim.Native.Nat.{ℕ, suc, _+_, _*_, _%_}
 use lib.Dec.{leb, ltb, eqb}
-use lib.Ieee.{Float, nan, isNan}
-use lib.ListN.{length, getD, drop}
+use lib.Ieee.{Float, isNan}
+use lib.ListN.{length, drop}
 use Rattle.ieee.specs.Ops.{f32}
 use Rattle.lists.specs.Lists.{pick, keep}
 use Rattle.object.specs.declared.Corners.{Corners}
@@ -13,7 +13,7 @@ use Rattle.object.specs.declared.Detection.{Detection}
 use Rattle.object.specs.declared.Rect.{Rect}
 use Rattle.object.specs.Object.{cornersOf, rectOf}
 use Rattle.object.specs.declared.Refusal.{Refusal}
-use Rattle.object.specs.declared.Refusal.the-variants.{UnsoundState, BadSetting, RaggedFrame, CrowdedFrame, ShortAnswer, RunOver, FullTable, BadMatrix}
+use Rattle.object.specs.declared.Refusal.the-variants.{UnsoundState, RaggedFrame, CrowdedFrame, ShortAnswer, RunOver, FullTable}
 use Rattle.pair.specs.Angle.{Step}
 use Rattle.strack.specs.declared.LastBox.{LastBox}
 use Rattle.strack.specs.declared.LastBox.the-variants.{Unseen, Seen}

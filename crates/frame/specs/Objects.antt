@@ -1,7 +1,7 @@
 -- Document 01, items 1 and 6: the objects of a frame, from its raw numbers. Definitions only.
-use mathlib.Core.Bool.{Bool, true, false, not, _&&_}
-use mathlib.Core.List.{List, [], _∷_}
-use Prim.Native.Nat.{ℕ, suc, _+_, _*_, _/_}
+use mathlib.Core.Bool.{Bool, not, _&&_}
+use mathlib.Core.List.{List}
+use Prim.Native.Nat.{ℕ, _+_, _*_, _/_}
 use lib.Ieee.{Float, binary32, nan, add, lt}
 use lib.ListN.{length, getD}
 use Rattle.ieee.specs.Ops.{f32}

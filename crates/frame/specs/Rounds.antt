@@ -1,9 +1,8 @@
 -- Document 01, item 6: the rounds that pair objects with tracks. A slot is a track's view and what it was granted. Definitions only.
-use mathlib.Core.Bool.{Bool, true, false}
 use mathlib.Core.Option.{Option, none, some}
 use mathlib.Core.List.{List, [], _∷_, map}
-use Prim.Native.Nat.{ℕ, zero, suc}
-use lib.Ieee.{Float, nan}
+use Prim.Native.Nat.{ℕ, suc}
+use lib.Ieee.{nan}
 use lib.IntN.{ℤ, pos, negsuc}
 use lib.ListN.{length, getD, set}
 use Rattle.lists.specs.Lists.{pick}
@@ -13,8 +12,7 @@ use Rattle.pair.specs.Angle.{Step}
 use Rattle.strack.specs.declared.LastBox.the-variants.{Unseen}
 use Rattle.strack.specs.declared.Kept.{Kept}
 use Rattle.strack.specs.Track.{seenOf}
-use Rattle.assoc.specs.Associate.{associate, reassociate}
-use Rattle.lapjv_walk.specs.Marks.{free}
+use Rattle.matching.specs.Associate.{associate, reassociate}
 use Rattle.frame.specs.declared.Settings.{Settings}
 use Rattle.frame.specs.Objects.{Obj, firstClass, spares}
 

@@ -1,13 +1,12 @@
 -- Document 01, 'What a call may be told': settings, the state and its rules. Definitions only.
 use mathlib.Core.Bool.{Bool, true, false, not, _&&_}
-use mathlib.Core.List.{List, [], _∷_, _++_, map}
-use Prim.Native.Nat.{ℕ, suc, _+_, _-_, _*_}
+use mathlib.Core.List.{List, [], _∷_, _++_}
+use Prim.Native.Nat.{ℕ, suc, _-_, _*_}
 use lib.Dec.{leb, ltb}
 use lib.Ieee.{Float, isNan, le}
 use lib.ListN.{length, take, replicate}
 use Rattle.ieee.specs.Ops.{f32}
 use Rattle.lists.specs.Lists.{every}
-use Rattle.strack.specs.declared.Track.{Track}
 use Rattle.strack.specs.declared.LastBox.the-variants.{Unseen}
 use Rattle.strack.specs.declared.ListBox.the-variants.{Empty}
 use Rattle.strack.specs.declared.Direction.the-variants.{Unknown}

@@ -13,7 +13,7 @@ use Rattle.lists.specs.Lists.{pick, keep, every, All}
 use Rattle.lists.proofs.Tab.{length-tab}
 use Rattle.lists.proofs.Keep.{keep-short}
 use Rattle.object.specs.declared.Detection.{Detection}
-use Rattle.assoc.specs.Associate.{detAt}
+use Rattle.matching.specs.Associate.{detAt}
 use Rattle.strack.specs.declared.Kept.{Kept}
 use Rattle.frame.specs.declared.Settings.{Settings}
 use Rattle.frame.specs.declared.Tracked.{Tracked}
@@ -27,7 +27,7 @@ use Rattle.objects.specs.declared.Dets.{Dets}
 use Rattle.objects.specs.Dets.{fiveOf, cellsOf, detsOf, detsIn}
 use Rattle.objects.proofs.Cells.{flat-length, padded-length}
 use Rattle.rounds.specs.declared.Pairing.{Pairing}
-use Rattle.rounds.specs.Grants.{grantsOf}
+use Rattle.grants.specs.Grants.{grantsOf}
 use Rattle.rounds.specs.Pairs.{Pairs}
 use Rattle.tracks.specs.declared.Tracks.{Tracks}
 use Rattle.tracks.specs.Tracks.{tracksOf, tracksIn, givable, givenOne, givenAll, newborn, bornOf}

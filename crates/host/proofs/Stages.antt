@@ -24,9 +24,10 @@ use Rattle.frame.proofs.Rules.{sound}
 use Rattle.rules.specs.Rules.{totalRules, soundAt}
 use Rattle.objects.specs.Cells.{padded}
 use Rattle.objects.specs.Dets.{fiveOf}
-use Rattle.rounds.specs.declared.views.Views.{Views}
-use Rattle.rounds.specs.Views.{fourOf, twoOf, viewsOf}
-use Rattle.rounds.proofs.Seeing.{seen, filled-long, turn}
+use Rattle.views.specs.declared.Views.{Views}
+use Rattle.matching.specs.Associate.{fourOf}
+use Rattle.views.specs.Views.{twoOf, viewsOf}
+use Rattle.views.proofs.Seeing.{seen, filled-long, turn}
 use Rattle.tracks.proofs.Table as table
 use Rattle.tracks.proofs.Rules.{can-predict, predicted-short}
 use Rattle.oc_sort_tracker.proofs.Ready.{Clear, clear}

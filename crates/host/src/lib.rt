@@ -2,7 +2,7 @@
 use frame::Settings;
 use lapjv::Assigned;
 use making::SettingsImage;
-use rounds::views::Views;
+use views::Views;
 ghost use mathlib.Core.Path.{_≡_};
 ghost use mathlib.Core.Bool.{_&&_};
 ghost use Rattle.image.specs.Image.{tagged, imageOf};
@@ -107,7 +107,7 @@ pub extern "C" fn satinjacks_update_lists(
     let mut j = 0;
     while j < ahead {
         let e = table[j];
-        rounds::views::put_view(
+        views::put_view(
             s,
             e,
             j,
@@ -151,7 +151,7 @@ pub extern "C" fn satinjacks_update_lists(
     }
     let mut b = 0;
     while b < births {
-        let d = assoc::detection_at(&cells, b);
+        let d = matching::detection_at(&cells, b);
         let e = tracks::birth(issued + b as u64, d);
         table[young + b] = e;
         b += 1;

@@ -7,10 +7,11 @@ use lib.Ieee.{nan}
 use lib.ListN.{length, getD, length-map, List·getD-map}
 use lib.Seq.{ext-getD}
 use Rattle.lists.proofs.Tab.{length-tab, getD-tab}
+use Rattle.object.specs.declared.Corners.{Corners}
 use Rattle.object.specs.declared.Detection.{Detection}
-use Rattle.assoc.specs.Associate.{detAt}
+use Rattle.matching.specs.Associate.{detAt, cornersAt, fourOf}
 use Rattle.frame.specs.Objects.{Obj}
-use Rattle.frame.specs.Rounds.{detOf, noObj, noDetection}
+use Rattle.frame.specs.Rounds.{detOf, noObj, noDetection, noCorners}
 use Rattle.lists.specs.Lists.{flat}
 use Rattle.objects.specs.Cells.{padded}
 use Rattle.objects.specs.Dets.{fiveOf, cellsOf, detsOf, detsIn}
@@ -29,6 +30,19 @@ module _ {A : Type 0} (f : A → Detection) (d : A) (e : f d ≡ noDetection) (n
     x2 = at 2 (omega arith) (rw e) j;
     y2 = at 3 (omega arith) (rw e) j;
     score = at 4 (omega arith) (rw e) j;
+  }
+
+-- entries of four numbers each, as boxes
+module _ {A : Type 0} (f : A → Corners) (d : A) (e : f d ≡ noCorners) (n : ℕ) (xs : List A) (i : ℕ) where
+  four : (c : ℕ) → c < 4 → getD (fourOf (f d)) c nan ≡ nan → getD (padded n (flat (λ x. fourOf (f x)) xs)) (i * 4 + c) nan ≡ getD (fourOf (f (getD xs i d))) c nan
+  four c h z = padded-at (λ (x : A). fourOf (f x)) 4 (λ x. refl) d c h z n xs i
+
+  pub four-at : cornersAt (padded n (flat (λ x. fourOf (f x)) xs)) i ≡ f (getD xs i d)
+  four-at = λ j. record {
+    x1 = padded-first (λ (x : A). fourOf (f x)) 4 (λ x. refl) d (omega arith) (rw e) n xs i j;
+    y1 = four 1 (omega arith) (rw e) j;
+    x2 = four 2 (omega arith) (rw e) j;
+    y2 = four 3 (omega arith) (rw e) j;
   }
 
 pub det-at : (os : List Obj) (i : ℕ) → detAt (detsOf os .cells) i ≡ detOf os i

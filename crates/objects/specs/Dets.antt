@@ -6,7 +6,7 @@ use lib.ListN.{length}
 use lib.Seq.{sets}
 use Rattle.lists.specs.Lists.{tab, flat}
 use Rattle.object.specs.declared.Detection.{Detection}
-use Rattle.assoc.specs.Associate.{detAt}
+use Rattle.matching.specs.Associate.{detAt}
 use Rattle.frame.specs.Objects.{Obj}
 use Rattle.objects.specs.declared.Dets.{Dets}
 use Rattle.objects.specs.Cells.{padded}

@@ -27,7 +27,7 @@ use Rattle.frame.proofs.Seats.{rounds-length}
 use Rattle.frame.proofs.Rules.{Ranges, ranges, Sound, sound}
 use Rattle.object.specs.declared.Refusal.the-variants.{FullTable}
 use Rattle.rounds.specs.declared.Pairing.{Pairing}
-use Rattle.rounds.specs.Grants.{grantsOf}
+use Rattle.grants.specs.Grants.{grantsOf}
 use Rattle.rounds.specs.Pairs.{Pairs}
 use Rattle.tracks.specs.declared.Tracks.{Tracks}
 use Rattle.tracks.specs.Tracks.{tracksOf, tracksIn, givable, givenAll, bornOf}

@@ -8,7 +8,7 @@ use lib.Ieee.{Float}
 use lib.ListN.{length, length-append, length-take}
 use Rattle.lists.specs.Lists.{tab, keep, every}
 use Rattle.lists.proofs.Tab.{length-tab}
-use Rattle.assoc.specs.Associate.{detAt}
+use Rattle.matching.specs.Associate.{detAt}
 use Rattle.strack.specs.declared.Kept.{Kept}
 use Rattle.objects.specs.declared.Dets.{Dets}
 use Rattle.frame.specs.declared.Tracked.{Tracked}

@@ -17,9 +17,9 @@ use Rattle.object.specs.declared.Detection.{Detection}
 use Rattle.strack.specs.declared.Kept.{Kept}
 use Rattle.lapjv_walk.specs.Marks.{free}
 use Rattle.pair.specs.Angle.{Step}
-use Rattle.assoc.specs.Associate.{detAt, cornersAt, stepAt, overlaps, combined, associate, reassociate}
-use Rattle.assoc.specs.Matching.{matched}
-use Rattle.assoc.specs.Paired.{Paired}
+use Rattle.matching.specs.Associate.{detAt, cornersAt, stepAt, overlaps, combined, associate, reassociate}
+use Rattle.matching.specs.Matching.{matched}
+use Rattle.matching.specs.Paired.{Paired}
 use Rattle.assoc.proofs.Matching.{kept-paired, match-paired, reassociate-fair}
 use Rattle.frame.specs.declared.Settings.{Settings}
 use Rattle.frame.specs.Objects.{Obj}
@@ -30,14 +30,14 @@ use Rattle.objects.proofs.Cells.{getD-padding}
 use Rattle.objects.proofs.Pushing.{dets-count}
 use Rattle.objects.proofs.Reading.{dets-at, dets-in}
 use Rattle.rounds.specs.declared.Pairing.{Pairing}
-use Rattle.rounds.specs.declared.grants.Places.{Places}
-use Rattle.rounds.specs.declared.views.Views.{Views}
-use Rattle.rounds.specs.Grants.{grantsOf, seated, isOpen, openIn, placesOf, Names, boxesOf, LeftOf}
+use Rattle.grants.specs.declared.Places.{Places}
+use Rattle.views.specs.declared.Views.{Views}
+use Rattle.grants.specs.Grants.{grantsOf, seated, isOpen, openIn, placesOf, Names, boxesOf, LeftOf}
 use Rattle.rounds.specs.Pairs.{FirstOf, LaterOf}
-use Rattle.rounds.proofs.Seeing.{views-count, boxes-at, directions-at, previous-at}
-use Rattle.rounds.proofs.Opening.{few, open-below, all-below, places-at, places-count, places-taken, open-is, gathered-at}
-use Rattle.rounds.proofs.Seating.{Below, paired-below, marks-name, placed-below, seat-is}
-use Rattle.rounds.proofs.Leaving.{left-more, left-placed}
+use Rattle.views.proofs.Seeing.{views-count, boxes-at, directions-at, previous-at}
+use Rattle.grants.proofs.Opening.{few, open-below, all-below, places-at, places-count, places-taken, open-is, gathered-at}
+use Rattle.grants.proofs.Seating.{Below, paired-below, marks-name, placed-below, seat-is}
+use Rattle.grants.proofs.Leaving.{left-more, left-placed}
 
 -- ---- any round
 

@@ -11,7 +11,7 @@ use Rattle.lists.specs.Lists.{pick, keep}
 use Rattle.lists.proofs.Tab.{length-tab}
 use Rattle.lists.proofs.Keep.{keep-short}
 use Rattle.object.specs.declared.Corners.{Corners}
-use Rattle.assoc.specs.Associate.{cornersAt, associate, reassociate}
+use Rattle.matching.specs.Associate.{cornersAt, associate, reassociate}
 use Rattle.frame.specs.declared.Settings.{Settings}
 use Rattle.frame.specs.Objects.{Obj, objectAt, objectsOf, firstClass, spares, firstScore, spareScore}
 use Rattle.frame.specs.Rounds.{View, Slot, Work, seat, emptySlot, noView, noSlot, noCorners, slotAt, viewAt, detOf, openFrom, placeOf, leftBy, firstRound, laterRound, rounds}
@@ -20,14 +20,14 @@ use Rattle.objects.specs.declared.Dets.{Dets}
 use Rattle.objects.specs.Dets.{detsOf}
 use Rattle.objects.proofs.Pushing.{dets-count}
 use Rattle.rounds.specs.declared.Pairing.{Pairing}
-use Rattle.rounds.specs.declared.views.Views.{Views}
-use Rattle.rounds.specs.Views.{viewsOf}
+use Rattle.views.specs.declared.Views.{Views}
+use Rattle.views.specs.Views.{viewsOf}
 use Rattle.strack.specs.declared.Kept.{Kept}
-use Rattle.rounds.specs.Grants.{grantsOf, LeftOf}
+use Rattle.grants.specs.Grants.{grantsOf, LeftOf}
 use Rattle.rounds.specs.Pairs.{Pairs, FirstOf, LaterOf}
-use Rattle.rounds.proofs.Seeing.{views-count, boxes-at, lasts-at}
-use Rattle.rounds.proofs.Opening.{take-few}
-use Rattle.rounds.proofs.Leaving.{left-few}
+use Rattle.views.proofs.Seeing.{views-count, boxes-at, lasts-at}
+use Rattle.grants.proofs.Opening.{take-few}
+use Rattle.grants.proofs.Leaving.{left-few}
 
 -- ---- views stay
 

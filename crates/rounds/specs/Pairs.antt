@@ -6,16 +6,16 @@ use lib.Ieee.{Float}
 use lib.ListN.{length}
 use Rattle.object.specs.declared.Corners.{Corners}
 use Rattle.strack.specs.declared.Kept.{Kept}
-use Rattle.assoc.specs.Associate.{cornersAt}
+use Rattle.matching.specs.Associate.{cornersAt}
 use Rattle.frame.specs.declared.Settings.{Settings}
 use Rattle.frame.specs.Objects.{Obj}
 use Rattle.frame.specs.Rounds.{View, Slot, Work, slotAt, firstRound, laterRound}
 use Rattle.objects.specs.declared.Dets.{Dets}
 use Rattle.objects.specs.Dets.{detsOf}
 use Rattle.rounds.specs.declared.Pairing.{Pairing}
-use Rattle.rounds.specs.declared.views.Views.{Views}
-use Rattle.rounds.specs.Views.{viewsOf}
-use Rattle.rounds.specs.Grants.{grantsOf}
+use Rattle.views.specs.declared.Views.{Views}
+use Rattle.views.specs.Views.{viewsOf}
+use Rattle.grants.specs.Grants.{grantsOf}
 
 -- the slots' grants and the objects left, as the code keeps them
 abbrev pub Pairs : Work → Pairing → Type 0

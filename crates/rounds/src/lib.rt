@@ -1,14 +1,11 @@
 // The rounds that pair a frame's objects with the tracks: document 01, item 6.
-mod grants;
-pub mod views;
-
-use crate::grants::Places;
-use crate::views::Views;
-use assoc::Marks;
 use frame::Settings;
 use frame::Tracked;
+use grants::Places;
+use matching::Marks;
 use objects::Dets;
 use strack::Kept;
+use views::Views;
 ghost use mathlib.Core.Path.{_≡_};
 ghost use mathlib.Core.List.{List, [], map};
 ghost use Prim.Native.Nat.{_≤_};
@@ -18,8 +15,8 @@ ghost use Rattle.frame.specs.Objects.{Obj, objectsOf, spares};
 ghost use Rattle.frame.specs.Rounds.{View, placeOf, rounds};
 ghost use Rattle.frame.specs.Frame.{trackedView};
 ghost use Rattle.objects.specs.Dets.{detsOf, detsIn};
-ghost use Rattle.rounds.specs.Grants.{seated, Names, LeftOf};
-ghost use Rattle.rounds.specs.Views.{viewsOf};
+ghost use Rattle.grants.specs.Grants.{seated, Names, LeftOf};
+ghost use Rattle.views.specs.Views.{viewsOf};
 ghost use Rattle.rounds.specs.Pairs.{Pairs, FirstOf, LaterOf};
 
 // What each track was granted, and the first-class objects that no round paired.
@@ -51,7 +48,7 @@ fn first_round(s: Settings, v: Views, dets: Dets) -> Pairing
     let boxes = v.boxes;
     let directions = v.directions;
     let previous = v.previous;
-    let marks = assoc::lap::associate(
+    let marks = assoc::associate(
         s.iou_threshold,
         s.inertia,
         &cells,
@@ -74,7 +71,7 @@ fn rematched(thr: f32, boxes: [f32; 256], count: usize, dets: Dets, grants: [Kep
     let places = grants::open_places(count, grants);
     let cells = dets.cells;
     let targets = grants::gather(boxes, places);
-    let marks = assoc::lap::simple_iou_match(thr, &cells, dets.n, &targets, places.n);
+    let marks = assoc::simple_iou_match(thr, &cells, dets.n, &targets, places.n);
     by_marks(marks, places, dets, grants)
 }
 

@@ -20,8 +20,8 @@ use Rattle.object.specs.Object.{cornersOf}
 use Rattle.pair.specs.Overlap.{overlapOf}
 use Rattle.lapjv_walk.specs.Marks.{markAt}
 use Rattle.lapjv_walk.proofs.Cases.{pos-inj, pos-free, never, and-left, and-right}
-use Rattle.assoc.specs.Associate.{overlaps, associate, reassociate}
-use Rattle.assoc.specs.Paired.{Paired, Fair}
+use Rattle.matching.specs.Associate.{overlaps, associate, reassociate}
+use Rattle.matching.specs.Paired.{Paired, Fair}
 use Rattle.assoc.proofs.Matching.{associate-fair, reassociate-fair}
 use Rattle.frame.specs.declared.Settings.{Settings}
 use Rattle.frame.specs.State.{inRange, unitRange}

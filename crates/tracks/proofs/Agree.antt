@@ -1,8 +1,8 @@
 -- What the code keeps of objects and grants suffices for the frame's grants, misses and births. Assumes nothing.
-use mathlib.Core.Path.{_≡_, refl, sym, ap, ap₂, _∙_}
+use mathlib.Core.Path.{_≡_, refl, ap, ap₂}
 use mathlib.Core.Option.{Option, none, some}
 use mathlib.Core.List.{List, [], _∷_, _++_, map}
-use Prim.Native.Nat.{ℕ, zero, suc, _+_, _*_, _<_}
+use Prim.Native.Nat.{ℕ, suc}
 use native.Mathlib.Omega.{arith}
 use lib.ListN.{length}
 use Rattle.strack.specs.declared.Kept.{Kept}
@@ -11,7 +11,7 @@ use Rattle.frame.specs.declared.Tracked.{Tracked}
 use Rattle.frame.specs.Objects.{Obj}
 use Rattle.frame.specs.Rounds.{Grant, Slot, keptOf, grantOf}
 use Rattle.frame.specs.Frame.{withTrack, give, giveAll, births}
-use Rattle.tracks.specs.Tracks.{givenTo, givenOne, givenAll, newborn, bornOf}
+use Rattle.tracks.specs.Tracks.{givenTo, givenAll, newborn, bornOf}
 
 -- ---- births
 

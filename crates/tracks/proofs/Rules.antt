@@ -1,8 +1,8 @@
 -- What the state rules tell of each track: it can be predicted, and given a box after that. Assumes nothing.
-use mathlib.Core.Path.{_≡_, refl, sym, ap, ap₂, _∙_}
+use mathlib.Core.Path.{_≡_, refl, sym, ap, _∙_}
 use mathlib.Core.Bool.{Bool, true, false, not, _&&_, Bool·beq}
-use mathlib.Core.List.{List, [], _∷_, _++_, map}
-use Prim.Native.Nat.{ℕ, zero, suc, _+_, _*_, _≤_, _<_}
+use mathlib.Core.List.{List, [], _∷_, map}
+use Prim.Native.Nat.{ℕ, zero, suc, _+_, _≤_, _<_}
 use native.Mathlib.Nat.{not-suc-le-zero, le-of-suc-le-suc}
 use native.Mathlib.Omega.{arith}
 use borrow.Author.Tests.{leb-true, le-leb}
@@ -19,7 +19,7 @@ use Rattle.frame.specs.declared.Tracked.{Tracked}
 use Rattle.frame.specs.declared.Tracker.{Tracker}
 use Rattle.frame.specs.State.{live, trackRules, stateRules}
 use Rattle.lapjv_walk.proofs.Cases.{and-left, and-right}
-use Rattle.frame.proofs.Rules.{Ranges, ranges, Sound, sound}
+use Rattle.frame.proofs.Rules.{ranges, Sound, sound}
 use Rattle.frame.specs.Frame.{predictTracked, unbroken, predictedTracks}
 use Rattle.tracks.specs.Tracks.{givable}
 

@@ -4,9 +4,7 @@ use mathlib.Core.List.{List, [], _∷_, _++_}
 use Prim.Native.Nat.{ℕ, suc, _-_}
 use lib.Dec.{leb}
 use lib.ListN.{length, take, replicate}
-use Rattle.lists.specs.Lists.{tab}
 use Rattle.object.specs.declared.Detection.{Detection}
-use Rattle.assoc.specs.Associate.{detAt}
 use Rattle.strack.specs.declared.LastBox.{LastBox}
 use Rattle.strack.specs.declared.LastBox.the-variants.{Unseen, Seen}
 use Rattle.strack.specs.declared.Kept.{Kept}
@@ -15,7 +13,6 @@ use Rattle.strack.specs.Track.{birthOf, trackBox, trackMiss}
 use Rattle.frame.specs.declared.Tracked.{Tracked}
 use Rattle.frame.specs.State.{blank}
 use Rattle.frame.specs.Frame.{withTrack}
-use Rattle.objects.specs.declared.Dets.{Dets}
 use Rattle.tracks.specs.declared.Tracks.{Tracks}
 
 -- ---- the table

@@ -187,7 +187,7 @@ pub fn born(ts: Tracks, left: Dets, issued: u64) -> Tracks
     let mut out = ts;
     let mut i = 0;
     while i < n {
-        let d = assoc::detection_at(&cells, i);
+        let d = matching::detection_at(&cells, i);
         let b = birth(issued + i as u64, d);
         let at = out.count;
         out.table[at] = b;

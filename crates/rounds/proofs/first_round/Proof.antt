@@ -8,11 +8,12 @@ use lib.IntN.{ℤ}
 use lib.ListN.{length, replicate}
 use Rattle.lists.proofs.Tab.{length-tab}
 use Rattle.strack.specs.declared.Kept.{Kept}
-use Rattle.assoc.specs.Associate.{detAt, cornersAt, stepAt, associate}
-use Rattle.assoc.specs.Paired.{Paired}
+use Rattle.matching.specs.Associate.{detAt, cornersAt, stepAt, associate}
+use Rattle.matching.specs.Paired.{Paired}
 use Rattle.frame.specs.Rounds.{keptOf}
-use Rattle.rounds.specs.Grants.{openIn, placesOf}
-use Rattle.rounds.proofs.Known.{cells-long, boxes-long, directions-long, previous-long}
+use Rattle.grants.specs.Grants.{openIn, placesOf}
+use Rattle.grants.proofs.Known.{cells-long}
+use Rattle.views.proofs.Known.{boxes-long, directions-long, previous-long}
 use Rattle.rounds.proofs.Tying.{all-named, associate-paired, open-all, first-is}
 use Rattle.rounds.proofs.Whole.{left-fits}
 use borrow.Author.Needs.{needs}

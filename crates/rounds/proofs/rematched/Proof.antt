@@ -5,12 +5,12 @@ use Prim.Native.Nat.{ℕ, _≤_}
 use native.Mathlib.Omega.{arith}
 use lib.IntN.{ℤ}
 use lib.ListN.{length}
-use Rattle.assoc.specs.Associate.{detAt, cornersAt, reassociate}
-use Rattle.assoc.specs.Paired.{Paired}
-use Rattle.rounds.specs.declared.grants.Places.{Places}
-use Rattle.rounds.specs.Grants.{openIn}
-use Rattle.rounds.proofs.Known.{cells-long}
-use Rattle.rounds.proofs.Opening.{few, open-below, all-below, places-below, places-count, opened, targets-long}
+use Rattle.matching.specs.Associate.{detAt, cornersAt, reassociate}
+use Rattle.matching.specs.Paired.{Paired}
+use Rattle.grants.specs.declared.Places.{Places}
+use Rattle.grants.specs.Grants.{openIn}
+use Rattle.grants.proofs.Known.{cells-long}
+use Rattle.grants.proofs.Opening.{few, open-below, all-below, places-below, places-count, opened, targets-long}
 use Rattle.rounds.proofs.Tying.{all-named, reassociate-paired, later-is}
 use borrow.Author.Needs.{needs}
 use Rattle.rounds.proofs.rematched.Statement.{statement}

@@ -1,12 +1,11 @@
 -- `rules::are_sound` meets its contract. Assumes nothing.
 use borrow.Author.Needs.{needs}
 use borrow.Author.Tests.{not-true, not-false}
-use mathlib.Core.Path.{_≡_, refl, sym, ap, _∙_}
-use Prim.Native.Nat.{ℕ, _+_, _-_, _≤_, _<_}
+use mathlib.Core.Path.{_≡_, sym, ap, _∙_}
+use Prim.Native.Nat.{ℕ, _-_, _≤_, _<_}
 use native.Mathlib.Omega.{arith}
-use lib.Dec.{leb, ltb}
-use lib.ListN.{length, take, drop, getD}
-use mathlib.Core.Bool.{Bool, true, false}
+use lib.ListN.{length, drop, getD}
+use mathlib.Core.Bool.{true, false}
 use Rattle.frame.specs.declared.Tracker.{Tracker}
 use Rattle.frame.specs.State.{live}
 use Rattle.frame.proofs.Known.{tracker-long}

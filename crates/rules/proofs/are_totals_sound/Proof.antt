@@ -1,6 +1,6 @@
 -- `rules::are_totals_sound` meets its contract. Assumes nothing.
 use borrow.Author.Needs.{needs}
-use mathlib.Core.Path.{_≡_, refl, sym, ap, _∙_}
+use mathlib.Core.Path.{sym, _∙_}
 use borrow.Author.Tests.{le-leb, lt-leb, not-true, not-false}
 use Rattle.rules.specs.Rules.{totalRules}
 use Rattle.rules.proofs.are_totals_sound.Statement.{statement}

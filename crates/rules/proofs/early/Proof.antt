@@ -1,6 +1,4 @@
 -- `rules::early` meets its contract. Assumes nothing.
-use borrow.Author.Needs.{needs}
-use mathlib.Core.Path.{_≡_, refl, sym, ap, _∙_}
 use borrow.Author.Tests.{eq-eqb, ne-eqb, lt-ltb, le-ltb, le-leb, lt-leb}
 use Rattle.frame.specs.Frame.{early}
 use Rattle.rules.proofs.early.Statement.{statement}

@@ -1,6 +1,4 @@
 -- `rules::in_unit_range` meets its contract. Assumes nothing.
-use borrow.Author.Needs.{needs}
-use mathlib.Core.Path.{_≡_, refl, sym, ap, _∙_}
 use Rattle.frame.specs.State.{unitRange}
 use Rattle.rules.proofs.in_unit_range.Statement.{statement}
 use Rattle.rules.proofs.in_unit_range.Tie as tie

@@ -1,7 +1,7 @@
 -- `rules::is_sound` meets its contract. Assumes nothing.
 use borrow.Author.Needs.{needs}
-use mathlib.Core.Path.{_≡_, refl, sym, ap, _∙_}
-use mathlib.Core.Bool.{Bool, true, false, _&&_}
+use mathlib.Core.Path.{sym, _∙_}
+use mathlib.Core.Bool.{_&&_}
 use Prim.Native.Nat.{_*_}
 use borrow.Author.Tests.{leb-true, not-true, not-false}
 use lib.Dec.{leb}

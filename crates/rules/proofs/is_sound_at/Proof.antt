@@ -1,7 +1,6 @@
 -- `rules::is_sound_at` meets its contract. Assumes nothing.
 use borrow.Author.Needs.{needs}
 use borrow.Author.Tests.{le-leb, lt-leb, lt-ltb, le-ltb}
-use mathlib.Core.Path.{_≡_, refl, sym, ap, _∙_}
 use Rattle.frame.specs.State.{trackRules}
 use Rattle.rules.proofs.is_sound_at.Statement.{statement}
 use Rattle.rules.proofs.is_sound_at.Tie as tie

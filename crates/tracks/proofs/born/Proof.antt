@@ -1,13 +1,13 @@
 -- `tracks::born` meets its contract. Assumes nothing.
 use borrow.Author.Needs.{needs}
 use mathlib.Core.Path.{_≡_, refl, sym, ap, _∙_}
-use Prim.Native.Nat.{ℕ, _+_, _-_, _≤_, _<_}
+use Prim.Native.Nat.{_-_, _≤_}
 use native.Mathlib.Omega.{arith}
-use lib.ListN.{length, take}
+use lib.ListN.{length}
 use lib.ListN.{length-take}
 use mathlib.Core.List.{_++_, append-nil}
 use Rattle.lists.specs.Lists.{tab}
-use Rattle.assoc.specs.Associate.{detAt}
+use Rattle.matching.specs.Associate.{detAt}
 use Rattle.tracks.specs.Tracks.{tracksOf, tracksIn, bornOf}
 use Rattle.tracks.proofs.Table.{born-room, born-turn}
 use Rattle.tracks.proofs.born.Statement.{statement}

@@ -1,0 +1,44 @@
+-- `views::put_step` meets its contract. Assumes nothing.
+use native.Mathlib.Omega.{arith}
+use native.Mathlib.Numerals.{unary-clauses}
+use lib.ListN.{length-set}
+use borrow.Author.Needs.{needs}
+use Rattle.views.proofs.put_step.Statement.{statement}
+use Rattle.views.proofs.put_step.Tie as tie
+
+mul-at : tie.Need-mul-at
+mul-at c = search needs
+
+mul-cells : tie.Need-mul-cells
+mul-cells c = search needs
+
+slice-write-cells : tie.Need-slice-write-cells
+slice-write-cells c = search needs
+
+add-cells : tie.Need-add-cells
+add-cells c = search needs
+
+mul-cells-2 : tie.Need-mul-cells-2
+mul-cells-2 c = search needs
+
+slice-write-cells-2 : tie.Need-slice-write-cells-2
+slice-write-cells-2 c = simp length-set (omega arith)
+
+same-length : tie.Need-same-length
+same-length c = search needs
+
+returns : tie.Need-returns
+returns c = simp unary-clauses
+
+pub put-step-spec : {M : Type 1} → statement M
+put-step-spec =
+    tie.close
+    (tie.spec
+    mul-at
+    mul-cells
+    slice-write-cells
+    add-cells
+    mul-cells-2
+    slice-write-cells-2
+    same-length
+    returns)
