@@ -40,7 +40,7 @@ use Rattle.oc_sort_tracker.specs.Answered.{Ready}
 use Rattle.oc_sort_tracker.proofs.Ready.{low-joined}
 use Rattle.image.specs.declared.TrackerImage.{TrackerImage}
 use Rattle.image.specs.Image.{tagged, imageOf, byteIn, thawTracker, freezeTracker, Put, Cleared}
-use Rattle.image.proofs.Filling.{Full, filledTo, filled-none, filled-turn, filled-clear, frozen}
+use Rattle.to_image.proofs.Filling.{Full, filledTo, filled-none, filled-turn, filled-clear, frozen}
 use Rattle.host.proofs.Turns.{Holds, holds-at, Keeping, keeping-none, still, keeping-taken, keeping-left, young, few-young, young-taken, young-left, born-more}
 use Rattle.host.proofs.Stepping.{every-keep, is-ready, fs, left-young}
 use Rattle.host.proofs.Stages.{settingsIn, aheadIn, Open, is-clear}
