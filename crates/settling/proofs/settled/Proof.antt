@@ -1,10 +1,10 @@
--- `oc_sort_tracker::settled` meets its contract. Assumes nothing.
+-- `settling::settled` meets its contract. Assumes nothing.
 use borrow.Author.Needs.{needs}
-use mathlib.Core.Path.{_≡_, refl, sym, ap, _∙_}
+use mathlib.Core.Path.{refl}
 use native.Mathlib.Omega.{arith}
-use Rattle.oc_sort_tracker.proofs.Tables.{canonical, room, all-short, all-low, answered}
-use Rattle.oc_sort_tracker.proofs.settled.Statement.{statement}
-use Rattle.oc_sort_tracker.proofs.settled.Tie as tie
+use Rattle.settling.proofs.Tables.{canonical, room, all-short, all-low, answered}
+use Rattle.settling.proofs.settled.Statement.{statement}
+use Rattle.settling.proofs.settled.Tie as tie
 
 given-requires : tie.Need-given-requires
 given-requires c κs = (search needs, (search needs, c .before .before .before .pre .tracks))

@@ -1,12 +1,12 @@
 -- The last part of a frame: its tables, one after another, are the definition's lists. Assumes nothing.
-use mathlib.Core.Path.{_≡_, refl, sym, ap, subst, _∙_}
+use mathlib.Core.Path.{_≡_, sym, ap, subst, _∙_}
 use mathlib.Core.Bool.{true}
 use mathlib.Core.List.{List, _++_}
-use Prim.Native.Nat.{ℕ, _+_, _-_, _≤_, _<_}
+use Prim.Native.Nat.{ℕ, _+_, _-_, _≤_}
 use native.Mathlib.Omega.{arith}
 use lib.Ieee.{Float}
 use lib.ListN.{length, length-append, length-take}
-use Rattle.lists.specs.Lists.{tab, keep, every}
+use Rattle.lists.specs.Lists.{keep, every}
 use Rattle.lists.proofs.Tab.{length-tab}
 use Rattle.assoc.specs.Associate.{detAt}
 use Rattle.strack.specs.declared.Kept.{Kept}
@@ -22,8 +22,8 @@ use Rattle.tracks.specs.declared.Tracks.{Tracks}
 use Rattle.objects.specs.Dets.{detsIn}
 use Rattle.tracks.specs.Tracks.{tracksOf, tracksIn, givenAll, bornOf}
 use Rattle.tracks.proofs.Table.{tracks-count, tracks-in, few-given, length-born}
-use Rattle.oc_sort_tracker.specs.Answered.{Answered, joined, settledOn, Ready}
-use Rattle.oc_sort_tracker.proofs.Ready.{low-joined}
+use Rattle.settling.specs.Settled.{Answered, joined, settledOn, Ready}
+use Rattle.settling.proofs.Ids.{low-joined}
 
 -- a table with blank cells past its tracks
 pub canonical : (w : Tracks) (es : List Tracked) → w ≡ tracksOf es → w ≡ tracksOf (tracksIn w)

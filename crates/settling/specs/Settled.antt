@@ -1,22 +1,19 @@
 -- A frame's answer, and what its last part needs and does. Definitions only.
 use mathlib.Core.Path.{_≡_}
-use mathlib.Core.Bool.{Bool, true}
+use mathlib.Core.Bool.{true}
 use mathlib.Core.List.{List, _++_}
 use Prim.Native.Nat.{ℕ, _+_, _≤_, _<_}
 use lib.Dec.{ltb}
 use lib.Ieee.{Float}
 use lib.ListN.{length}
 use Rattle.lists.specs.Lists.{keep, every}
-use Rattle.object.specs.declared.Refusal.{Refusal}
 use Rattle.strack.specs.declared.Kept.{Kept}
 use Rattle.objects.specs.declared.Dets.{Dets}
-use Rattle.frame.specs.declared.Settings.{Settings}
 use Rattle.frame.specs.declared.Tracked.{Tracked}
 use Rattle.frame.specs.declared.Tracker.{Tracker}
 use Rattle.frame.specs.declared.Answer.{Answer}
-use Rattle.frame.specs.declared.Outcome.the-variants.{Refused}
 use Rattle.frame.specs.State.{stateOf}
-use Rattle.frame.specs.Frame.{Reply, reports, Out, reportsOf, isYoung, boxesAfter, idsAfter}
+use Rattle.frame.specs.Frame.{reports, Out, reportsOf, isYoung, boxesAfter, idsAfter}
 use Rattle.frame.specs.Contract.{outcomeOf, reportsIn}
 use Rattle.tracks.specs.declared.Tracks.{Tracks}
 use Rattle.objects.specs.Dets.{detsIn}
@@ -29,10 +26,6 @@ pub record Answered (o : Out Tracker) (boxes : List Float) (ids : List ℕ) (r :
   pub next : r .tracker ≡ o .next
   pub boxes-after : boxes′ ≡ boxesAfter (o .reply) boxes
   pub ids-after : ids′ ≡ idsAfter (o .reply) ids
-
--- no reports, and the state as it was
-abbrev pub refusedWith : Tracker → Refusal → Answer
-refusedWith t r = record { outcome = Refused r; count = 0; tracker = t }
 
 -- the tracks after grants, misses and births
 abbrev pub joined : Tracker → Tracks → List Kept → Dets → List Tracked
