@@ -28,7 +28,7 @@ pub extern "C" fn satinjacks_update_by_value(
             },
         };
     }
-    let t = image::thaw(i);
+    let t = from_image::thaw(i);
     let answer = oc_sort_tracker::update(t, input, boxes, ids);
     let outcome = answer.outcome;
     let number = making::told(outcome);
@@ -39,7 +39,7 @@ pub extern "C" fn satinjacks_update_by_value(
         };
     }
     let next = answer.tracker;
-    let image = image::freeze(next);
+    let image = to_image::freeze(next);
     Stepped {
         image,
         reply: Reply {

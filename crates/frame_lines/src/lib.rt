@@ -46,7 +46,7 @@ pub fn new(line: &[u8], out: &mut [u8], at: usize, told: Told) -> Told {
     let made = oc_sort_tracker::with_settings(given.settings);
     let outcome = made.outcome;
     let n = number(outcome);
-    let image = image::freeze(made.tracker);
+    let image = to_image::freeze(made.tracker);
     Told {
         good: true,
         at: put_made(out, at, n),
@@ -239,8 +239,8 @@ fn frames(line: &[u8], from: usize, times: u64, out: &mut [u8], at: usize, told:
         u.at = protocol::put_text(out, at, b"no tracker\n");
         return u;
     }
-    let l = steps(times, image::thaw(told.image), a);
-    let image = image::freeze(l.tracker);
+    let l = steps(times, from_image::thaw(told.image), a);
+    let image = to_image::freeze(l.tracker);
     u.image = image;
     let p = put_outcome(out, at, l);
     u.at = put_spoiled(out, p, l.spoiled);

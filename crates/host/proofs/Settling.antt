@@ -1,11 +1,11 @@
 -- The loops of the frame call once its pairs are known: boxes and misses, births, reports, and the tracks written back. Assumes nothing.
 use mathlib.Core.Path.{_≡_, refl, sym, ap, ap₂, subst, subst₂, _∙_}
-use mathlib.Core.Bool.{Bool, true, false, _&&_}
+use mathlib.Core.Bool.{Bool, true, false}
 use mathlib.Core.Option.{none}
-use mathlib.Core.List.{List, [], _∷_, _++_, map, append-nil}
-use Prim.Native.Nat.{ℕ, zero, suc, _+_, _-_, _*_, _/_, _≤_, _<_}
+use mathlib.Core.List.{List, [], _++_, map, append-nil}
+use Prim.Native.Nat.{ℕ, _+_, _-_, _*_, _≤_, _<_}
 use native.Mathlib.Omega.{arith}
-use lib.Dec.{leb, ltb}
+use lib.Dec.{ltb}
 use lib.Ieee.{Float}
 use lib.ListN.{length, take, drop, getD, set, replicate, length-append, length-map, length-replicate, List·getD-append}
 use lib.Seq.{take-length}
@@ -17,10 +17,9 @@ use Rattle.matching.specs.Associate.{detAt}
 use Rattle.strack.specs.declared.Kept.{Kept}
 use Rattle.frame.specs.declared.Settings.{Settings}
 use Rattle.frame.specs.declared.Tracked.{Tracked}
-use Rattle.frame.specs.declared.Tracker.{Tracker}
 use Rattle.frame.specs.State.{blank, stateOf}
 use Rattle.frame.specs.Objects.{Obj, objectsOf}
-use Rattle.frame.specs.Rounds.{View, Work, rounds, keptOf, grantOf}
+use Rattle.frame.specs.Rounds.{Work, rounds, keptOf, grantOf}
 use Rattle.frame.specs.Frame.{Report, trackedView, isYoung, isReported, reportOf, reportsOf}
 use Rattle.frame.proofs.Seats.{rounds-length}
 use Rattle.objects.specs.declared.Dets.{Dets}
@@ -36,13 +35,13 @@ use Rattle.tracks.proofs.Table.{tracks-count, tracks-in, few-given, length-born
 use Rattle.tracks.proofs.Rules.{every-at}
 use Rattle.reports.specs.Written.{lowId, rectAt, Written}
 use Rattle.reports.proofs.Writing as writing
-use Rattle.oc_sort_tracker.specs.Answered.{Ready}
-use Rattle.oc_sort_tracker.proofs.Ready.{low-joined}
+use Rattle.settling.specs.Settled.{Ready}
+use Rattle.settling.proofs.Ids.{low-joined}
 use Rattle.image.specs.declared.TrackerImage.{TrackerImage}
 use Rattle.image.specs.Image.{tagged, imageOf, byteIn, thawTracker, freezeTracker, Put, Cleared}
-use Rattle.image.proofs.Filling.{Full, filledTo, filled-none, filled-turn, filled-clear, frozen}
-use Rattle.host.proofs.Turns.{Holds, holds-at, Keeping, keeping-none, still, keeping-taken, keeping-left, young, few-young, young-taken, young-left, born-more}
-use Rattle.host.proofs.Stepping.{every-keep, is-ready, fs, left-young}
+use Rattle.to_image.proofs.Filling.{Full, filledTo, filled-none, filled-turn, filled-clear, frozen}
+use Rattle.host.proofs.Turns.{Holds, holds-at, Keeping, keeping-none, still, keeping-taken, keeping-left, young, young-taken, young-left, born-more}
+use Rattle.host.proofs.Stepping.{every-keep, is-ready, left-young}
 use Rattle.host.proofs.Stages.{settingsIn, aheadIn, Open, is-clear}
 
 -- the pairs of an open call, which leave room for the births

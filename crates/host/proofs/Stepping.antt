@@ -15,13 +15,12 @@ use Rattle.lapjv_walk.proofs.Cases.{and-left, and-right}
 use Rattle.object.specs.declared.Detection.{Detection}
 use Rattle.object.specs.declared.Refusal.{Refusal}
 use Rattle.object.specs.declared.Refusal.the-variants.{UnsoundState, FullTable}
-use Rattle.strack.specs.declared.Kept.{Kept}
 use Rattle.strack.specs.Track.{birthOf}
 use Rattle.frame.specs.declared.Settings.{Settings}
 use Rattle.frame.specs.declared.Tracked.{Tracked}
 use Rattle.frame.specs.declared.Tracker.{Tracker}
 use Rattle.frame.specs.declared.Answer.{Answer}
-use Rattle.frame.specs.declared.Outcome.the-variants.{Accepted, Refused}
+use Rattle.frame.specs.declared.Outcome.the-variants.{Accepted}
 use Rattle.frame.specs.State.{live, stateOf, stateRules}
 use Rattle.frame.specs.Objects.{objectsOf}
 use Rattle.frame.specs.Rounds.{rounds}
@@ -35,7 +34,8 @@ use Rattle.tracks.specs.declared.Tracks.{Tracks}
 use Rattle.tracks.specs.Tracks.{tracksOf, tracksIn, givenAll, newborn, bornOf}
 use Rattle.tracks.proofs.Table.{tracks-count, tracks-in}
 use Rattle.reports.specs.Written.{Written}
-use Rattle.oc_sort_tracker.specs.Answered.{Answered, refusedWith, joined, settledOn, Ready}
+use Rattle.settling.specs.Settled.{Answered, joined, settledOn, Ready}
+use Rattle.oc_sort_tracker.specs.Refused.{refusedWith}
 use Rattle.oc_sort_tracker.proofs.Agree.{refused-full, accepted-agree, ready, left-short}
 use Rattle.oc_sort_tracker.proofs.Framing.{unsound, early-refused, accepted}
 use Rattle.image.specs.declared.TrackerImage.{TrackerImage}

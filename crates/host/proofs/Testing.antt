@@ -1,8 +1,8 @@
 -- The test of an image's state, one live track after another. Assumes nothing.
-use mathlib.Core.Path.{_≡_, refl, sym, ap, _∙_}
+use mathlib.Core.Path.{_≡_, refl, ap, _∙_}
 use mathlib.Core.Bool.{Bool, true, false, _&&_}
 use mathlib.Core.List.{List, [], _∷_, map}
-use Prim.Native.Nat.{ℕ, zero, suc, _+_, _≤_, _<_}
+use Prim.Native.Nat.{ℕ, _+_, _≤_, _<_}
 use native.Mathlib.Numerals.{add-one}
 use native.Mathlib.Omega.{arith}
 use lib.ListN.{length, take, drop, getD, length-map, drop-of-length-le, List·getD-map}
@@ -11,7 +11,7 @@ use Rattle.lists.specs.Lists.{every}
 use Rattle.lapjv_walk.proofs.Cases.{and-left, and-right, and-false}
 use Rattle.frame.specs.declared.Settings.{Settings}
 use Rattle.frame.specs.declared.Tracked.{Tracked}
-use Rattle.frame.specs.State.{rising, trackRules, stateRules}
+use Rattle.frame.specs.State.{stateRules}
 use Rattle.rules.specs.Rules.{totalRules, soundAt, soundFrom}
 use Rattle.rules.proofs.Sound.{passed, failed, none-left, id-below}
 use Rattle.image.specs.declared.TrackerImage.{TrackerImage}

@@ -44,7 +44,7 @@ pub extern "C" fn satinjacks_update_lists(
 ) -> Reply
     ensures { λ r. ⌜ Hosted (imageOf (now (wide .entry)) (now (floats .entry)) (now (words .entry))) (now (input .entry)) (now (boxes .entry)) (now (ids .entry)) (imageOf (now (wide .exit)) (now (floats .exit)) (now (words .exit))) r (now (boxes .exit)) (now (ids .exit)) ⌝ }
 {
-    image::lengths(wide, floats, words);
+    to_image::lengths(wide, floats, words);
     let use_byte = words[3];
     let s = Settings {
         det_thresh: floats[0],
@@ -69,7 +69,7 @@ pub extern "C" fn satinjacks_update_lists(
     let mut from = 0;
     let mut u = 0;
     while u < count {
-        let e = image::track_at(wide, floats, words, u);
+        let e = from_image::track_at(wide, floats, words, u);
         if !(image::is_meant_at(wide, floats, words, u)
             & rules::is_sound_at(s, frames, issued, from, e)) {
             return Reply {
@@ -170,10 +170,10 @@ pub extern "C" fn satinjacks_update_lists(
     let mut m = 0;
     while m < live {
         let e = table[m];
-        image::put_track(wide, floats, words, m, e);
+        to_image::put_track(wide, floats, words, m, e);
         m += 1;
     }
-    image::clear_from(wide, floats, words, live);
+    to_image::clear_from(wide, floats, words, live);
     wide[0] = issued + births as u64;
     wide[1] = live as u64;
     words[4] = frames + 1;

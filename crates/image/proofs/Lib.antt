@@ -1,6 +1,2 @@
-pub mod Sets
-pub mod Putting
-pub mod Reading
-pub mod Filling
-pub mod Back
-pub mod Known
+pub mod Parts
+pub mod Tested

@@ -1,13 +1,12 @@
 -- Making a tracker in place: what stands in the lists, by how it came out. Assumes nothing.
 use borrow.Author.Tests.{ne-eqb, le-leb, lt-leb}
-use mathlib.Core.Path.{_≡_, refl, sym, ap, subst, _∙_}
+use mathlib.Core.Path.{_≡_, sym, ap, subst, _∙_}
 use mathlib.Core.Bool.{Bool}
 use Prim.Native.Nat.{ℕ, _≤_, _<_}
 use lib.Dec.{eqb, leb}
 use Rattle.lists.specs.Lists.{pick}
 use Rattle.object.specs.Refusal.{numberOf}
 use Rattle.object.specs.declared.Refusal.the-variants.{BadSetting}
-use Rattle.frame.specs.declared.Settings.{Settings}
 use Rattle.frame.specs.declared.Made.{Made}
 use Rattle.frame.specs.Contract.{madeOf}
 use Rattle.image.specs.declared.TrackerImage.{TrackerImage}

@@ -38,7 +38,7 @@ fn begin(wide: &mut [u64; 66], floats: &mut [f32; 10435], words: &mut [u32; 965]
     let number = told(outcome);
     if number == 0 {
         let t = made.tracker;
-        image::put(wide, floats, words, t);
+        to_image::put(wide, floats, words, t);
     }
     number
 }

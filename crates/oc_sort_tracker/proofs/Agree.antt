@@ -5,7 +5,6 @@ use mathlib.Core.Option.{none}
 use mathlib.Core.List.{List, _++_, map}
 use Prim.Native.Nat.{ℕ, _+_, _-_, _/_, _≤_, _<_}
 use native.Mathlib.Omega.{arith}
-use lib.Dec.{ltb}
 use lib.Ieee.{Float}
 use lib.ListN.{length, replicate, length-map}
 use borrow.Author.Tests.{lt-ltb, le-ltb}
@@ -20,11 +19,11 @@ use Rattle.frame.specs.declared.Tracked.{Tracked}
 use Rattle.frame.specs.declared.Tracker.{Tracker}
 use Rattle.frame.specs.declared.Answer.{Answer}
 use Rattle.frame.specs.State.{live, stateRules}
-use Rattle.frame.specs.Objects.{Obj, objectAt, objectsOf}
-use Rattle.frame.specs.Rounds.{View, Work, rounds, keptOf, grantOf}
+use Rattle.frame.specs.Objects.{objectAt, objectsOf}
+use Rattle.frame.specs.Rounds.{Work, rounds, keptOf, grantOf}
 use Rattle.frame.specs.Frame.{Call, early, Out, trackedView, predictedTracks, roundsOver, giveAll, births, isFull, settled, acceptedFrame}
 use Rattle.frame.proofs.Seats.{rounds-length}
-use Rattle.frame.proofs.Rules.{Ranges, ranges, Sound, sound}
+use Rattle.frame.proofs.Rules.{ranges, Sound, sound}
 use Rattle.object.specs.declared.Refusal.the-variants.{FullTable}
 use Rattle.rounds.specs.declared.Pairing.{Pairing}
 use Rattle.grants.specs.Grants.{grantsOf}
@@ -33,10 +32,12 @@ use Rattle.tracks.specs.declared.Tracks.{Tracks}
 use Rattle.tracks.specs.Tracks.{tracksOf, tracksIn, givable, givenAll, bornOf}
 use Rattle.tracks.proofs.Agree.{births-born, give-all-given}
 use Rattle.tracks.proofs.Rules.{predicted-givable, predicted-short}
-use Rattle.oc_sort_tracker.specs.Answered.{Answered, refusedWith, joined, settledOn, Ready}
+use Rattle.settling.specs.Settled.{Answered, joined, settledOn, Ready}
+use Rattle.settling.proofs.Ids.{below}
+use Rattle.settling.proofs.Tables.{holds, counts}
+use Rattle.oc_sort_tracker.specs.Refused.{refusedWith}
 use Rattle.oc_sort_tracker.proofs.Left.{rounds-few}
-use Rattle.oc_sort_tracker.proofs.Ready.{Clear, clear, below, low-ids}
-use Rattle.oc_sort_tracker.proofs.Tables.{holds, counts}
+use Rattle.oc_sort_tracker.proofs.Ready.{Clear, clear, low-ids}
 
 module _ (t : Tracker) (input : List Float) where
   abbrev pub es : List Tracked

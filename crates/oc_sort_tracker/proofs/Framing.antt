@@ -1,6 +1,6 @@
 -- The frame call's contract, from whichever test refused it or from the accepted frame. Assumes nothing.
-use mathlib.Core.Path.{_≡_, refl, sym, ap, subst, _∙_}
-use mathlib.Core.Bool.{Bool, true, false}
+use mathlib.Core.Path.{_≡_, refl, sym, ap, subst}
+use mathlib.Core.Bool.{true, false}
 use mathlib.Core.Option.{Option, none, some}
 use mathlib.Core.List.{List}
 use Prim.Native.Nat.{ℕ}
@@ -11,14 +11,14 @@ use Rattle.object.specs.declared.Refusal.{Refusal}
 use Rattle.object.specs.declared.Refusal.the-variants.{UnsoundState}
 use Rattle.frame.specs.declared.Tracker.{Tracker}
 use Rattle.frame.specs.declared.Answer.{Answer}
-use Rattle.frame.specs.declared.Outcome.{Outcome}
 use Rattle.frame.specs.declared.Outcome.the-variants.{Accepted, Refused}
 use Rattle.frame.specs.State.{stateRules}
-use Rattle.frame.specs.Frame.{Call, early, Out, frameAt, acceptedFrame, frameOf}
+use Rattle.frame.specs.Frame.{Call, early, frameAt, acceptedFrame, frameOf}
 use Rattle.frame.specs.Contract.{callOf, Framed}
 use Rattle.frame.proofs.Promises.{promised}
 use Rattle.rules.specs.Rules.{outcomeAt}
-use Rattle.oc_sort_tracker.specs.Answered.{Answered, refusedWith}
+use Rattle.settling.specs.Settled.{Answered}
+use Rattle.oc_sort_tracker.specs.Refused.{refusedWith}
 
 -- ---- what a test's outcome tells
 

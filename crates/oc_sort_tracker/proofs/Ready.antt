@@ -1,26 +1,23 @@
 -- A sound state and a call that no early row refuses give the last part of a frame what it needs. Assumes nothing.
-use mathlib.Core.Path.{_≡_, refl, sym, ap, subst, _∙_}
+use mathlib.Core.Path.{_≡_, refl}
 use mathlib.Core.Bool.{Bool, true, false, not, _&&_, _||_}
 use mathlib.Core.Option.{Option, none, some}
-use mathlib.Core.List.{List, [], _∷_, _++_, map}
-use Prim.Native.Nat.{ℕ, zero, suc, _+_, _*_, _%_, _≤_, _<_}
+use mathlib.Core.List.{List, [], _∷_, map}
+use Prim.Native.Nat.{ℕ, suc, _%_, _≤_, _<_}
 use native.Mathlib.Omega.{arith}
 use lib.Dec.{leb, ltb, eqb}
 use lib.ListN.{length}
-use borrow.Author.Tests.{ltb-true, ltb-false, leb-true, leb-false, lt-ltb}
+use borrow.Author.Tests.{ltb-false, leb-false}
 use Rattle.lists.specs.Lists.{pick, put, keep, every}
-use Rattle.object.specs.declared.Detection.{Detection}
 use Rattle.object.specs.declared.Refusal.{Refusal}
 use Rattle.object.specs.declared.Refusal.the-variants.{RaggedFrame, CrowdedFrame, ShortAnswer, RunOver}
-use Rattle.strack.specs.declared.Kept.{Kept}
 use Rattle.frame.specs.declared.Tracked.{Tracked}
 use Rattle.frame.specs.declared.Tracker.{Tracker}
 use Rattle.frame.specs.State.{live, rising, stateRules}
 use Rattle.frame.specs.Frame.{Call, early, predictTracked, unbroken, predictedTracks}
 use Rattle.lapjv_walk.proofs.Cases.{and-left, and-right}
-use Rattle.frame.proofs.Rules.{Sound, sound}
-use Rattle.reports.specs.Written.{lowId}
-use Rattle.tracks.specs.Tracks.{givenAll, bornOf}
+use Rattle.frame.proofs.Rules.{sound}
+use Rattle.settling.proofs.Ids.{below}
 
 -- ---- a call that no early row refuses
 
@@ -61,9 +58,6 @@ clear frames c h = go (not (eqb (length (c .input) % 5) 0)) (ltb 320 (length (c 
 
 -- ---- ids
 
-abbrev pub below : ℕ → Tracked → Bool
-below n e = ltb (e .id) n
-
 rising-below : (from n : ℕ) (es : List Tracked) → rising from n es ≡ true → every (below n) es ≡ true
 rising-below from n [] h = refl
 rising-below from n (e ∷ es) h = both (below n e) (every (below n) es) (and-right (leb from (e .id)) (below n e) (and-left (leb from (e .id) && below n e) (rising (suc (e .id)) n es) h)) (rising-below (suc (e .id)) n es (and-right (leb from (e .id) && below n e) (rising (suc (e .id)) n es) h))
@@ -83,22 +77,3 @@ predicted-below n (e ∷ es) h = go (unbroken (predictTracked e)) (and-left (bel
 pub low-ids : (t : Tracker) → stateRules t ≡ true → every (below (t .issued)) (predictedTracks (live t)) ≡ true
 unfolding predictedTracks
 low-ids t h = predicted-below (t .issued) (live t) (rising-below 0 (t .issued) (live t) (sound t h .ids))
-
--- after grants and births every id fits
-lower : (n : ℕ) → n ≤ 64000000 → (e : Tracked) → below n e ≡ true → lowId e ≡ true
-unfolding lowId
-lower n l e h = let b : e .id < n = ltb-true (e .id) n h in lt-ltb (e .id) 64000000 (omega (arith, b, l))
-
-low-given : (n : ℕ) → n ≤ 64000000 → (dt : ℕ) (es : List Tracked) (ks : List Kept) (rest : List Tracked) → every (below n) es ≡ true → every lowId rest ≡ true → every lowId (givenAll dt es ks ++ rest) ≡ true
-unfolding lowId
-low-given n l dt [] ks rest h r = r
-low-given n l dt (e ∷ es) [] rest h r = r
-low-given n l dt (e ∷ es) (k ∷ ks) rest h r = rw (lower n l e (and-left (below n e) (every (below n) es) h)) (low-given n l dt es ks rest (and-right (below n e) (every (below n) es) h) r)
-
-low-born : (n : ℕ) (ds : List Detection) → n + length ds ≤ 64000000 → every lowId (bornOf n ds) ≡ true
-unfolding lowId
-low-born n [] h = refl
-low-born n (d ∷ ds) h = rw (lt-ltb n 64000000 (omega arith)) (low-born (suc n) ds (omega arith))
-
-pub low-joined : (n dt : ℕ) (es : List Tracked) (ks : List Kept) (ds : List Detection) → every (below n) es ≡ true → n + length ds ≤ 64000000 → every lowId (givenAll dt es ks ++ bornOf n ds) ≡ true
-low-joined n dt es ks ds h l = low-given n (omega arith) dt es ks (bornOf n ds) h (low-born n ds l)

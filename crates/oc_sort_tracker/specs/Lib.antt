@@ -1,2 +1,2 @@
 pub mod New
-pub mod Answered
+pub mod Refused

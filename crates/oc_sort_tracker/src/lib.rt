@@ -5,18 +5,15 @@ use frame::Outcome;
 use frame::Settings;
 use frame::Tracker;
 use object::Refusal;
-use objects::Dets;
-use strack::Kept;
-use tracks::Tracks;
 ghost use mathlib.Core.Path.{_≡_};
 ghost use mathlib.Core.Bool.{true};
 ghost use mathlib.Core.Option.{none};
-ghost use lib.ListN.{length};
 ghost use Rattle.frame.specs.State.{emptyTracker, stateRules};
 ghost use Rattle.frame.specs.Frame.{early, acceptedFrame};
 ghost use Rattle.frame.specs.Contract.{madeOf, callOf, Framed};
 ghost use Rattle.oc_sort_tracker.specs.New.{defaults};
-ghost use Rattle.oc_sort_tracker.specs.Answered.{Answered, refusedWith, joined, settledOn, Ready};
+ghost use Rattle.settling.specs.Settled.{Answered};
+ghost use Rattle.oc_sort_tracker.specs.Refused.{refusedWith};
 
 // ---- making a tracker
 
@@ -79,38 +76,6 @@ fn refused(t: Tracker, refusal: Refusal) -> Answer
     }
 }
 
-// Boxes and misses, births, reports, ageing: the frame once its pairs are known.
-fn settled(
-    t: Tracker,
-    ts: Tracks,
-    grants: [Kept; 64],
-    left: Dets,
-    boxes: &mut [f32],
-    ids: &mut [u64],
-) -> Answer
-    requires { ⌜ Ready t ts left (length (now boxes)) (length (now ids)) ⌝ }
-    ensures { λ r. ⌜ Answered (settledOn t (joined t ts grants left) (left .n)) (now (boxes .entry)) (now (ids .entry)) r (now (boxes .exit)) (now (ids .exit)) ⌝ }
-{
-    let settings = t.settings;
-    let given = tracks::given(ts, grants, settings.delta_t);
-    let all = tracks::born(given, left, t.issued);
-    let frames = t.frames + 1;
-    let reported = reports::write(settings, frames, all, boxes, ids);
-    let young = tracks::aged(all, settings);
-    let table = young.table;
-    let next = Tracker {
-        settings,
-        frames,
-        issued: t.issued + left.n as u64,
-        count: young.count,
-        table,
-    };
-    Answer {
-        outcome: Outcome::Accepted,
-        count: reported,
-        tracker: next,
-    }
-}
 // Prediction, the rounds, and row 7: a frame that no earlier row refuses.
 fn accepted(t: Tracker, input: &[f32], boxes: &mut [f32], ids: &mut [u64]) -> Answer
     requires { ⌜ (stateRules t ≡ true) × (early (t .frames) (callOf (now input) (now boxes) (now ids)) ≡ none) ⌝ }
@@ -125,7 +90,7 @@ fn accepted(t: Tracker, input: &[f32], boxes: &mut [f32], ids: &mut [u64]) -> An
         return refused(t, Refusal::FullTable);
     }
     let grants = pairing.grants;
-    settled(t, ts, grants, left, boxes, ids)
+    settling::settled(t, ts, grants, left, boxes, ids)
 }
 
 // One frame: x, y, width, height and score of each object in `input`; x, y, width, height of each report to `boxes`,

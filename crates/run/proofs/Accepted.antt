@@ -3,14 +3,14 @@ use mathlib.Core.Path.{_≡_, refl, sym, ap, ap₂, subst, _∙_}
 use mathlib.Core.Bool.{Bool, true, false, not, _&&_, _||_}
 use mathlib.Core.Option.{Option, none, some}
 use mathlib.Core.List.{List, [], _∷_, _++_, map}
-use Prim.Native.Nat.{ℕ, zero, suc, _+_, _*_, _/_, _%_, _≤_, _<_}
+use Prim.Native.Nat.{ℕ, suc, _+_, _*_, _/_, _%_, _≤_, _<_}
 use native.Mathlib.Nat.{zero-add}
 use native.Mathlib.Omega.{arith}
 use lib.Dec.{T, eqb, ltb, leb}
-use lib.Ieee.{Float, nan}
+use lib.Ieee.{Float}
 use lib.ListN.{length, length-append, length-map}
-use borrow.Author.Tests.{ltb-false, leb-false, lt-ltb, le-ltb, not-false, eqb-true}
-use Rattle.lists.specs.Lists.{pick, put, tab, keep, sumOf, upFrom, All}
+use borrow.Author.Tests.{ltb-false, leb-false, lt-ltb, le-ltb, eqb-true}
+use Rattle.lists.specs.Lists.{pick, sumOf, upFrom, All}
 use Rattle.lists.proofs.Tab.{length-tab}
 use Rattle.lists.proofs.Keep.{keep-append, keep-short}
 use Rattle.lists.proofs.All.{all-map, all-append, map-append, sum-same, length-sum, upFrom-append}
@@ -19,9 +19,9 @@ use Rattle.object.specs.declared.Refusal.the-variants.{RaggedFrame, CrowdedFram
 use Rattle.frame.specs.declared.Settings.{Settings}
 use Rattle.frame.specs.State.{inRange, stateRules}
 use Rattle.frame.specs.Objects.{Obj, detectionAt, objectAt, objectsOf, firstScore, spareScore, firstClass, spares}
-use Rattle.frame.specs.Rounds.{View, Grant, Slot, Work, rounds}
-use Rattle.frame.specs.Frame.{Call, Out, early}
-use Rattle.run.specs.Book.{Status, open′, broken, agedOut, Entry, Book, isOpen, live, closedBy, withStatus, breaks, breakEntry, isOld, ageEntry, viewOfEntry, nextLine, withLine, write, opened, entriesAfter, entered, roundsOf, enterAt, enter}
+use Rattle.frame.specs.Rounds.{View, Slot, Work}
+use Rattle.frame.specs.Frame.{Call, early}
+use Rattle.run.specs.Book.{broken, agedOut, Entry, Book, isOpen, live, closedBy, breaks, breakEntry, isOld, ageEntry, viewOfEntry, nextLine, write, opened, entriesAfter, entered, roundsOf, enterAt, enter}
 use Rattle.run.specs.Claim.{timesWritten, boxesOf, Meets, Because, Grown}
 use Rattle.run.specs.Laws.{scoreAt, PlacedAt, Tidy, Laws}
 use Rattle.frame.proofs.Seats.{rounds-length, Fairly, slot-weight, GotSlot}

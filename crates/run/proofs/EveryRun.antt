@@ -1,11 +1,11 @@
 -- Demand 3 holds of every run: by induction on the list of calls the tracker is the state that the book stands for. Assumes nothing.
 use mathlib.Core.Path.{_≡_, refl, sym, ap, ap₂, subst, _∙_}
-use mathlib.Core.Bool.{Bool, true, false, not, _&&_, _||_}
+use mathlib.Core.Bool.{Bool, true, false, not, _||_}
 use mathlib.Core.Option.{Option, none, some}
-use mathlib.Core.List.{List, [], _∷_, _++_, map, List·Memᴰ}
+use mathlib.Core.List.{List, [], _∷_, map}
 use Prim.Native.Nat.{ℕ, zero, suc, _+_, _*_, _/_, _%_, _≤_, _<_}
 use native.Mathlib.Omega.{arith}
-use lib.Dec.{T, eqb, ltb, leb}
+use lib.Dec.{eqb, ltb, leb}
 use lib.Ieee.{Float}
 use lib.ListN.{length}
 use contract.Lifetimes.{Lfts}
@@ -23,7 +23,7 @@ use Rattle.lent.specs.declared.Told.{Told}
 use Rattle.lists.specs.Lists.{pick, sumOf, All}
 use Rattle.lists.proofs.All.{all-mem, map-map}
 use Rattle.object.specs.declared.Refusal.{Refusal}
-use Rattle.object.specs.declared.Refusal.the-variants.{UnsoundState, BadSetting, RaggedFrame, CrowdedFrame, ShortAnswer, RunOver, FullTable}
+use Rattle.object.specs.declared.Refusal.the-variants.{UnsoundState, BadSetting, RaggedFrame, CrowdedFrame, ShortAnswer, RunOver}
 use Rattle.frame.specs.declared.Settings.{Settings}
 use Rattle.frame.specs.declared.Tracked.{Tracked}
 use Rattle.frame.specs.declared.Tracker.{Tracker}
@@ -33,16 +33,16 @@ use Rattle.frame.specs.declared.Answer.{Answer}
 use Rattle.frame.specs.declared.Made.{Made}
 use Rattle.frame.specs.State as State
 use Rattle.frame.specs.State.{inRange, stateOf, emptyTracker}
-use Rattle.frame.specs.Objects.{detectionAt, firstScore, spareScore}
-use Rattle.frame.specs.Frame.{Call, Reply, refused, reports, Out, early, boxesAfter, idsAfter, frameOf}
+use Rattle.frame.specs.Objects.{detectionAt}
+use Rattle.frame.specs.Frame.{Call, Reply, Out, early, boxesAfter, idsAfter, frameOf}
 use Rattle.frame.specs.Contract.{madeOf, outcomeOf, reportsIn, callOf, Framed}
 use Rattle.frame.proofs.Promises.{promised}
 use Rattle.oc_sort_tracker.specs.New.{defaults}
 use Rattle.run.specs.Book.{Stamped, Line, miss, box, Entry, Book, noneYet, live, breakEntry, trackOf, roundsOf, entered, enterAt, enter}
-use Rattle.run.specs.Claim.{inputOf, isAt, inLine, inEntry, timesWritten, boxesOf, boxesInFrame, Overlapped, Because, Grown}
-use Rattle.run.specs.Laws.{scoreAt, PlacedAt, Placed, Genuine, Tidy, Laws}
+use Rattle.run.specs.Claim.{inputOf, isAt, inLine, timesWritten, boxesOf, Overlapped, Because}
+use Rattle.run.specs.Laws.{PlacedAt, Placed, Genuine, Tidy, Laws}
 use Rattle.run.specs.Lent as lent-call
-use Rattle.run.specs.Run.{Seen, seenOf, seenIn, Run, made-new, made-with, called, lent, Brought, broughtTo, callSeen, bookOf, bookReply, Gave, Answered, withInput, acceptedInputs, inputAt, Extended, Histories, Holds, EveryRun}
+use Rattle.run.specs.Run.{Seen, seenOf, seenIn, Run, made-new, made-with, called, lent, Brought, broughtTo, callSeen, bookOf, bookReply, Gave, Answered, withInput, acceptedInputs, inputAt, Histories, Holds, EveryRun}
 use Rattle.run.proofs.Sim.{bookState, outOf, alike, live-state}
 use Rattle.run.proofs.Laws.{at-first}
 use Rattle.run.proofs.Accepted.{kept-laws, never-unsound, enter-grown}

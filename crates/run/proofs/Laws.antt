@@ -1,34 +1,26 @@
 -- Every call keeps the laws of the book, whatever it is fed. Assumes nothing.
 use mathlib.Core.Path.{_≡_, refl, sym, ap, ap₂, subst, _∙_}
-use mathlib.Core.Bool.{Bool, true, false, not, _&&_, _||_}
+use mathlib.Core.Bool.{Bool, true, false}
 use mathlib.Core.Option.{Option, none, some}
 use mathlib.Core.List.{List, [], _∷_, _++_, map}
-use mathlib.Core.Logic.{_⊎_, inl, inr, ⊎-elim, _≢_}
-use Prim.Native.Nat.{ℕ, zero, suc, _+_, _*_, _/_, _%_, _≤_, _<_}
-use native.Mathlib.Nat.{zero-add}
+use Prim.Native.Nat.{ℕ, suc, _+_, _/_, _≤_, _<_}
 use native.Mathlib.Omega.{arith}
-use lib.Dec.{T, eqb, ltb, leb}
-use lib.Ieee.{Float, nan}
-use lib.ListN.{length, length-append, length-map}
-use borrow.Author.Tests.{ltb-true, ltb-false, leb-true, leb-false, lt-ltb, le-ltb, eqb-true, eq-eqb, ne-eqb, not-true, not-false}
-use Rattle.lists.specs.Lists.{pick, put, keep, sumOf, upFrom, All}
-use Rattle.lists.proofs.Keep.{keep-append, keep-short}
-use Rattle.lists.proofs.All.{all-map, all-append, all-any, map-append, sum-append, sum-map, sum-zero, sum-same, length-sum, upFrom-append}
-use Rattle.object.specs.declared.Refusal.{Refusal}
+use lib.Dec.{T, eqb, leb}
+use lib.Ieee.{Float}
+use lib.ListN.{length}
+use borrow.Author.Tests.{leb-true, eqb-true, eq-eqb, ne-eqb, not-false}
+use Rattle.lists.specs.Lists.{pick, sumOf, All}
+use Rattle.lists.proofs.All.{all-map, all-any, sum-append, sum-map, sum-zero}
 use Rattle.frame.specs.declared.Settings.{Settings}
-use Rattle.frame.specs.State.{inRange}
-use Rattle.frame.specs.Objects.{Obj, detectionAt, objectAt, objectsOf, firstScore, spareScore, firstClass, spares}
-use Rattle.frame.specs.Rounds.{View, Grant, Slot, Work, rounds}
-use Rattle.frame.specs.Frame.{Call, Out, firstOf, Test, early}
-use Rattle.run.specs.Book.{Stamped, Line, miss, box, Status, open′, broken, agedOut, Entry, Book, noneYet, isOpen, live, closedBy, withStatus, replayed, breaks, breakEntry, isOld, ageEntry, viewOfEntry, nextLine, withLine, write, opened, entriesAfter, entered, roundsOf, enterAt, enter}
-use Rattle.run.specs.Claim.{inputOf, isAt, inLine, inEntry, timesWritten, boxesOf, ofFrame, lineOfFrame, boxesInFrame, Meets, Overlapped, Because, Grown}
-use Rattle.run.specs.Laws.{scoreAt, PlacedAt, Placed, Genuine, Tidy, Laws}
-use Rattle.frame.proofs.Seats.{Passed, Fairly, got-weight, slot-weight, Got, GotSlot}
-use Rattle.run.proofs.Rounds.{byteObjects, rounds-views, rounds-fairly, rounds-weight, rounds-left, rounds-from}
-use Rattle.run.proofs.Sim.{live-young, write-length, opened-length, bookState}
-use Rattle.run.proofs.Rules.{Lined, Young, lawful}
-use Rattle.run.proofs.Writing.{write-all, ids, ids-status, ids-write, ids-opened, hit, count-write, count-opened, live-write-length, live-opened-length, grown-write}
-use Rattle.run.proofs.Places.{at, sum-places, OfInput, objects-of-input}
+use Rattle.frame.specs.Objects.{Obj, detectionAt}
+use Rattle.frame.specs.Rounds.{View, Grant, Slot, Work}
+use Rattle.run.specs.Book.{Stamped, Line, Status, open′, broken, agedOut, Entry, noneYet, isOpen, live, closedBy, withStatus, replayed, breaks, breakEntry, isOld, ageEntry, viewOfEntry, nextLine, withLine, write, opened, entriesAfter}
+use Rattle.run.specs.Claim.{inputOf, inEntry, timesWritten, boxesOf, ofFrame, lineOfFrame, boxesInFrame, Meets, Overlapped, Because}
+use Rattle.run.specs.Laws.{PlacedAt, Placed, Genuine, Tidy, Laws}
+use Rattle.frame.proofs.Seats.{Passed, got-weight, slot-weight, Got}
+use Rattle.run.proofs.Rules.{Young}
+use Rattle.run.proofs.Writing.{hit, count-write, count-opened}
+use Rattle.run.proofs.Places.{at, OfInput}
 
 pub at-first : (s : Settings) → Laws s noneYet
 unfolding timesWritten

@@ -1,10 +1,9 @@
 -- What the three rounds keep: each grant overlapped by the threshold or more in its round, views stay, and no object is lost or doubled.
 -- Assumes nothing.
-use mathlib.Core.Path.{_≡_, refl, sym, ap, ap₂, subst, _∙_}
-use mathlib.Core.Bool.{Bool, true, false, not, _&&_}
+use mathlib.Core.Path.{_≡_, refl, sym, ap, subst, _∙_}
+use mathlib.Core.Bool.{Bool, true, false, not}
 use mathlib.Core.Option.{Option, none, some}
-use mathlib.Core.List.{List, [], _∷_, _++_, map}
-use mathlib.Core.Logic.{_≢_, _⊎_, inl, inr, ⊎-elim}
+use mathlib.Core.List.{List, [], _∷_, map}
 use Prim.Native.Nat.{ℕ, zero, suc, _+_, _≤_, _<_}
 use native.Mathlib.Nat.{not-suc-le-zero, le-of-suc-le-suc, suc-inj}
 use native.Mathlib.Omega.{arith}
@@ -13,22 +12,22 @@ use lib.IntN.{ℤ, pos, negsuc}
 use lib.Ieee.{Float, nan, inf, fin, le, isNan}
 use lib.ListN.{length, getD, length-map, List·getD-map}
 use Rattle.ieee.specs.Ops.{f32}
-use Rattle.lists.specs.Lists.{pick, keep, sumOf, All}
+use Rattle.lists.specs.Lists.{pick, sumOf, All}
 use Rattle.lists.proofs.All.{keep-all}
 use Rattle.object.specs.declared.Corners.{Corners}
 use Rattle.object.specs.Object.{cornersOf}
 use Rattle.pair.specs.Overlap.{overlapOf}
 use Rattle.lapjv_walk.specs.Marks.{markAt}
-use Rattle.lapjv_walk.proofs.Cases.{pos-inj, pos-free, never, and-left, and-right}
-use Rattle.matching.specs.Associate.{overlaps, associate, reassociate}
-use Rattle.matching.specs.Paired.{Paired, Fair}
+use Rattle.lapjv_walk.proofs.Cases.{pos-inj, never, and-left, and-right}
+use Rattle.matching.specs.Associate.{overlaps, reassociate}
+use Rattle.matching.specs.Paired.{Fair}
 use Rattle.assoc.proofs.Matching.{associate-fair, reassociate-fair}
 use Rattle.frame.specs.declared.Settings.{Settings}
 use Rattle.frame.specs.State.{inRange, unitRange}
 use Rattle.frame.specs.Objects.{Obj, firstClass, spares, firstScore, spareScore}
-use Rattle.frame.specs.Rounds.{View, Grant, Slot, Work, emptySlot, noView, noCorners, noObj, slotAt, viewAt, detOf, unlessGranted, openFrom, placeOf, seat, leftBy, firstRound, laterRound, rounds, firstMarks}
+use Rattle.frame.specs.Rounds.{View, Grant, Slot, Work, emptySlot, noView, noCorners, noObj, slotAt, viewAt, detOf, unlessGranted, openFrom, placeOf, firstRound, laterRound, rounds, firstMarks}
 use Rattle.run.specs.Claim.{Meets, targetOf}
-use Rattle.frame.proofs.Seats.{Unnamed, Seats, Fairly, seat-views, seat-fairly, slot-weight, seat-weight, seat-keeps, Got, GotSlot, seat-from, left-from}
+use Rattle.frame.proofs.Seats.{Unnamed, Seats, Fairly, seat-views, seat-fairly, slot-weight, seat-weight, seat-keeps, GotSlot, seat-from, left-from}
 
 -- ---- from marks by index to seats in turn
 

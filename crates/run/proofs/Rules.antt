@@ -1,16 +1,15 @@
 -- The state that a lawful book stands for obeys the state rules: a frame of a run is never told 1. Assumes nothing.
-use mathlib.Core.Path.{_≡_, refl, sym, ap, ap₂, _∙_}
-use mathlib.Core.Bool.{Bool, true, false, not, _&&_}
-use mathlib.Core.List.{List, [], _∷_, _++_, map, tail-eq-of-cons-eq, head-eq-of-cons-eq}
-use Prim.Native.Nat.{ℕ, zero, suc, _+_, _-_, _*_, _≤_, _<_}
+use mathlib.Core.Path.{_≡_, refl, _∙_}
+use mathlib.Core.Bool.{Bool, true, false, _&&_}
+use mathlib.Core.List.{List, [], _∷_, map, tail-eq-of-cons-eq, head-eq-of-cons-eq}
+use Prim.Native.Nat.{ℕ, suc, _+_, _-_, _*_, _≤_, _<_}
 use native.Mathlib.Omega.{arith}
 use lib.Dec.{T, leb, ltb}
 use lib.ListN.{length, replicate, length-map}
 use lib.Seq.{take-append-seam}
 use borrow.Author.Tests.{leb-true, le-leb, lt-ltb}
-use Rattle.lists.specs.Lists.{put, keep, every, upFrom, All}
+use Rattle.lists.specs.Lists.{put, every, upFrom, All}
 use Rattle.object.specs.declared.Detection.{Detection}
-use Rattle.strack.specs.Rules.{ownRules}
 use Rattle.history.specs.Uncut.{Uncut, predicted, born, boxed, missed}
 use Rattle.history.specs.Replay as Replay
 use Rattle.history.specs.Replay.{replay, cut}

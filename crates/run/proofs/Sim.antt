@@ -1,28 +1,27 @@
 -- The frame on the state that a book stands for gives the book's answer, and the state that the next book stands for. Assumes nothing.
-use mathlib.Core.Path.{_≡_, refl, sym, ap, ap₂, subst, _∙_}
+use mathlib.Core.Path.{_≡_, refl, sym, ap, ap₂, _∙_}
 use mathlib.Core.Bool.{Bool, true, false, not, _&&_, _||_}
 use mathlib.Core.Option.{Option, none, some}
 use mathlib.Core.List.{List, [], _∷_, _++_, map}
 use mathlib.Core.Logic.{_≢_, _⊎_, inl, inr, ⊎-elim}
-use Prim.Native.Nat.{ℕ, zero, suc, _+_, _-_, _≤_, _<_}
+use Prim.Native.Nat.{ℕ, zero, suc, _+_, _-_, _≤_}
 use native.Mathlib.Nat.{suc-inj}
 use native.Mathlib.Omega.{arith}
 use lib.Dec.{ltb, leb, eqb, leb·zero, eqb·suc-zero}
 use lib.Ieee.{Float, isNan}
-use lib.ListN.{length, take, replicate, length-append, length-map}
+use lib.ListN.{length, replicate, length-append, length-map}
 use lib.Seq.{take-append-seam}
 use borrow.Author.Tests.{leb-true}
 use Rattle.lists.specs.Lists.{pick, put, keep}
 use Rattle.lists.proofs.Keep.{keep-append}
 use Rattle.lists.proofs.All.{map-append, map-map, keep-map, keep-same}
 use Rattle.object.specs.Object.{cornersOf}
-use Rattle.object.specs.declared.Detection.{Detection}
 use Rattle.object.specs.declared.Refusal.{Refusal}
-use Rattle.object.specs.declared.Refusal.the-variants.{UnsoundState, FullTable}
+use Rattle.object.specs.declared.Refusal.the-variants.{UnsoundState}
 use Rattle.strack.specs.declared.Track.{Track}
 use Rattle.strack.specs.declared.LastBox.{LastBox}
-use Rattle.strack.specs.Track.{stateBox, trackPredict, trackBox, trackMiss, birthOf, kPreviousOf}
-use Rattle.history.specs.Uncut.{Uncut, predicted, born, kPreviousObs}
+use Rattle.strack.specs.Track.{stateBox, trackPredict, birthOf}
+use Rattle.history.specs.Uncut.{predicted}
 use Rattle.history.specs.Replay as Replay
 use Rattle.history.specs.Replay.{replay, cut}
 use Rattle.history.proofs.Sound.{replay-sound}
@@ -34,8 +33,8 @@ use Rattle.frame.specs.State as State
 use Rattle.frame.specs.State.{inRange, unitRange, stateOf, stateRules, blank}
 use Rattle.frame.specs.Objects.{Obj, objectsOf}
 use Rattle.frame.specs.Rounds.{View, Grant, Slot, Work, rounds}
-use Rattle.frame.specs.Frame.{Call, Reply, refused, reports, Out, early, hasNan, detectionOr, stepOr, viewOf, trackedView, withTrack, predictTracked, unbroken, predictedTracks, give, giveAll, births, isReported, reportOf, snocIf, reportsOf, isYoung, isFull, settled, acceptedFrame, frameAt, frameOf}
-use Rattle.run.specs.Book.{Stamped, Line, miss, box, Status, open′, broken, agedOut, Entry, Book, noneYet, lineOf, replayed, foreseen, trackOf, isOpen, live, closedBy, withStatus, breaks, breakEntry, isOld, ageEntry, viewOfEntry, nextLine, withLine, written, write, opened, entriesAfter, entered, roundsOf, enterAt, enter}
+use Rattle.frame.specs.Frame.{Call, reports, Out, early, detectionOr, stepOr, viewOf, trackedView, withTrack, predictTracked, unbroken, predictedTracks, give, giveAll, births, isReported, reportOf, snocIf, reportsOf, isYoung, settled, acceptedFrame, frameAt, frameOf}
+use Rattle.run.specs.Book.{box, Status, open′, broken, agedOut, Entry, Book, lineOf, replayed, trackOf, isOpen, live, closedBy, withStatus, breaks, breakEntry, isOld, ageEntry, viewOfEntry, nextLine, withLine, written, write, opened, entered, roundsOf, enterAt, enter}
 use Rattle.frame.proofs.Seats.{rounds-length}
 use Rattle.lapjv_walk.proofs.Cases.{and-right}
 

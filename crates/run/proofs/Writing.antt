@@ -1,18 +1,18 @@
 -- What writing a frame into the book does, entry by entry: ids, counts, growth, and any property that each line keeps. Assumes nothing.
-use mathlib.Core.Path.{_≡_, refl, sym, ap, ap₂, subst, _∙_}
-use mathlib.Core.Bool.{Bool, true, false, not, _&&_}
+use mathlib.Core.Path.{_≡_, refl, ap, subst}
+use mathlib.Core.Bool.{Bool, true, false}
 use mathlib.Core.Option.{Option, none, some}
 use mathlib.Core.List.{List, [], _∷_, _++_, map, nil≢cons, head-eq-of-cons-eq, tail-eq-of-cons-eq}
 use mathlib.Core.Logic.{_⊎_, inl, inr, _≢_}
-use Prim.Native.Nat.{ℕ, zero, suc, _+_, _≤_, _<_}
+use Prim.Native.Nat.{ℕ, suc, _+_}
 use native.Mathlib.Nat.{suc-inj}
 use native.Mathlib.Omega.{arith}
 use lib.ListN.{length}
-use Rattle.lists.specs.Lists.{pick, put, keep, sumOf, upFrom, All}
+use Rattle.lists.specs.Lists.{put, sumOf, upFrom, All}
 use Rattle.frame.specs.declared.Settings.{Settings}
 use Rattle.frame.specs.Objects.{Obj}
-use Rattle.frame.specs.Rounds.{View, Grant, Slot}
-use Rattle.run.specs.Book.{Stamped, Line, miss, box, Status, open′, broken, agedOut, Entry, isOpen, live, closedBy, withStatus, breaks, breakEntry, isOld, ageEntry, viewOfEntry, nextLine, withLine, written, write, opened}
+use Rattle.frame.specs.Rounds.{Grant, Slot}
+use Rattle.run.specs.Book.{Line, Status, open′, broken, agedOut, Entry, isOpen, live, closedBy, withStatus, breaks, breakEntry, ageEntry, viewOfEntry, nextLine, withLine, written, write, opened}
 use Rattle.run.specs.Claim.{isAt, inLine, inEntry, Later, Grown}
 use Rattle.frame.proofs.Seats.{got-weight, slot-weight}
 

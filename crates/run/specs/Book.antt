@@ -3,7 +3,7 @@
 use mathlib.Core.Bool.{Bool, true, false, not}
 use mathlib.Core.Option.{Option, none, some}
 use mathlib.Core.List.{List, [], _∷_, _++_, map}
-use Prim.Native.Nat.{ℕ, zero, suc, _+_}
+use Prim.Native.Nat.{ℕ, suc, _+_}
 use lib.Dec.{leb, ltb}
 use lib.Ieee.{Float}
 use lib.ListN.{length}
@@ -19,7 +19,7 @@ use Rattle.frame.specs.declared.Settings.{Settings}
 use Rattle.frame.specs.declared.Tracked.{Tracked}
 use Rattle.frame.specs.Objects.{Obj, objectsOf}
 use Rattle.frame.specs.Rounds.{View, Grant, Slot, Work, rounds}
-use Rattle.frame.specs.Frame.{Call, Reply, refused, reports, Out, early, hasNan, detectionOr, stepOr, reportsOf}
+use Rattle.frame.specs.Frame.{Call, refused, reports, Out, early, hasNan, detectionOr, stepOr, reportsOf}
 
 -- ---- entries
 

@@ -1,12 +1,12 @@
 -- What demand 3 says of a book: how often an object is written, which pairs overlapped, what a status means, and how entries grow. Definitions only.
 use mathlib.Core.Path.{_≡_}
-use mathlib.Core.Bool.{Bool, true, false, _&&_}
+use mathlib.Core.Bool.{true, false, _&&_}
 use mathlib.Core.List.{List, [], _∷_}
 use mathlib.Core.Logic.{_⊎_}
 use Prim.Native.Nat.{ℕ, zero, suc, _+_}
 use lib.Dec.{T, eqb}
-use lib.Ieee.{Float, nan, le}
-use lib.ListN.{length, getD}
+use lib.Ieee.{Float, le}
+use lib.ListN.{length}
 use Rattle.lists.specs.Lists.{pick, sumOf}
 use Rattle.object.specs.declared.Corners.{Corners}
 use Rattle.object.specs.Object.{cornersOf}

@@ -2,7 +2,7 @@
 use mathlib.Core.Path.{_≡_}
 use mathlib.Core.Bool.{Bool, true, false}
 use mathlib.Core.List.{List, [], _∷_, map, List·Memᴰ}
-use Prim.Native.Nat.{ℕ, zero, suc, _+_, _/_, _≤_, _<_}
+use Prim.Native.Nat.{ℕ, _/_, _≤_, _<_}
 use lib.Dec.{T}
 use lib.Ieee.{Float}
 use lib.ListN.{length}
@@ -30,9 +30,9 @@ use Rattle.frame.specs.declared.Made.{Made}
 use Rattle.frame.specs.State as State
 use Rattle.frame.specs.State.{inRange}
 use Rattle.frame.specs.Objects.{detectionAt, firstScore, spareScore}
-use Rattle.frame.specs.Frame.{Call, Reply, refused, reports, boxesAfter, idsAfter}
+use Rattle.frame.specs.Frame.{Call, Reply, boxesAfter, idsAfter}
 use Rattle.frame.specs.Contract.{outcomeOf, reportsIn, callOf}
-use Rattle.run.specs.Book.{Stamped, Status, Entry, Book, noneYet, live, trackOf, enter}
+use Rattle.run.specs.Book.{Stamped, Entry, Book, noneYet, live, trackOf, enter}
 use Rattle.run.specs.Claim.{inputOf, timesWritten, boxesOf, boxesInFrame, Overlapped, Because, Grown}
 use Rattle.run.specs.Laws.{scoreAt}
 use Rattle.run.specs.Lent as lent-call

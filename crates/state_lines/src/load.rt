@@ -61,7 +61,7 @@ fn empty(s: Settings, frames: u32, issued: u64, count: u64) -> TrackerImage {
     words[0] = s.max_age;
     words[1] = s.min_hits;
     words[2] = s.delta_t;
-    words[3] = image::flag(s.use_byte);
+    words[3] = to_image::flag(s.use_byte);
     words[4] = frames;
     TrackerImage {
         wide,
@@ -208,7 +208,7 @@ fn with_line(text: &[u8], i: TrackerImage, k: usize, line: usize) -> Read
 {
     let at = behind_name(text, line);
     let none = is_none(text, at);
-    let image = with_tag(i, k, line, image::flag(!none));
+    let image = with_tag(i, k, line, to_image::flag(!none));
     let r = with_numbers(text, at, image, k, line);
     let good = r.good | (none & (3 < line));
     let image = r.image;

@@ -1,7 +1,7 @@
 -- `host::are_totals_usable` meets its contract. Assumes nothing.
 use borrow.Author.Needs.{needs}
 use borrow.Author.Tests.{not-true, not-false}
-use mathlib.Core.Path.{_≡_, sym, ap, _∙_}
+use mathlib.Core.Path.{sym, _∙_}
 use Rattle.host.proofs.are_totals_usable.Statement.{statement}
 use Rattle.host.proofs.are_totals_usable.Tie as tie
 

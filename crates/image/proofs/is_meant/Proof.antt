@@ -7,7 +7,7 @@ use native.Mathlib.Omega.{arith}
 use lib.ListN.{getD}
 use Rattle.lists.specs.Lists.{every, tab}
 use Rattle.image.specs.Image.{tagged, meantTrack, imageOf, cellAt}
-use Rattle.image.proofs.Reading.{and-true, every-turn, meant-done}
+use Rattle.image.proofs.Tested.{and-true, every-turn, meant-done}
 use Rattle.image.proofs.is_meant.Statement.{statement}
 use Rattle.image.proofs.is_meant.Tie as tie
 

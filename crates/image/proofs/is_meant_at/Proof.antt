@@ -7,7 +7,7 @@ use native.Mathlib.Omega.{arith}
 use lib.ListN.{getD}
 use Rattle.lists.specs.Lists.{every, tab}
 use Rattle.image.specs.Image.{tagged}
-use Rattle.image.proofs.Reading.{and-true, tags-turn, tags-done}
+use Rattle.image.proofs.Tested.{and-true, tags-turn, tags-done}
 use Rattle.image.proofs.is_meant_at.Statement.{statement}
 use Rattle.image.proofs.is_meant_at.Tie as tie
 

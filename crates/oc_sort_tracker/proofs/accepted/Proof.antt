@@ -1,8 +1,5 @@
 -- `oc_sort_tracker::accepted` meets its contract. Assumes nothing.
 use borrow.Author.Needs.{needs}
-use mathlib.Core.Path.{_≡_, refl, sym, ap, _∙_}
-use native.Mathlib.Omega.{arith}
-use Prim.Native.Nat.{ℕ, _+_, _≤_}
 use Rattle.frame.specs.Contract.{callOf}
 use Rattle.frame.proofs.Rules.{sound, ranges}
 use Rattle.oc_sort_tracker.proofs.Ready.{clear}

@@ -1,6 +1,5 @@
 -- `oc_sort_tracker::empty` meets its contract. Assumes nothing.
 use borrow.Author.Needs.{needs}
-use mathlib.Core.Path.{_≡_, refl, sym, ap, _∙_}
 use Rattle.frame.specs.State.{stateOf, emptyTracker}
 use Rattle.tracks.specs.Tracks.{tracksOf}
 use Rattle.oc_sort_tracker.proofs.empty.Statement.{statement}

@@ -1,6 +1,5 @@
 -- `oc_sort_tracker::new` meets its contract. Assumes nothing.
 use borrow.Author.Needs.{needs}
-use mathlib.Core.Path.{_≡_, refl, sym, ap, _∙_}
 use Rattle.oc_sort_tracker.specs.New.{defaults}
 use Rattle.oc_sort_tracker.proofs.new.Statement.{statement}
 use Rattle.oc_sort_tracker.proofs.new.Tie as tie

@@ -1,6 +1,6 @@
 -- `oc_sort_tracker::update` meets its contract. Assumes nothing.
 use borrow.Author.Needs.{needs}
-use mathlib.Core.Path.{_≡_, refl, sym, ap, _∙_}
+use mathlib.Core.Path.{refl, sym, _∙_}
 use borrow.Author.Tests.{not-true, not-false}
 use Rattle.frame.specs.Contract.{callOf}
 use Rattle.frame.specs.Frame.{early}

@@ -1,6 +1,6 @@
 -- `oc_sort_tracker::with_settings` meets its contract. Assumes nothing.
 use borrow.Author.Needs.{needs}
-use mathlib.Core.Path.{_≡_, refl, sym, ap, _∙_}
+use mathlib.Core.Path.{sym, _∙_}
 use Rattle.frame.specs.Contract.{madeOf}
 use Rattle.oc_sort_tracker.proofs.with_settings.Statement.{statement}
 use Rattle.oc_sort_tracker.proofs.with_settings.Tie as tie
