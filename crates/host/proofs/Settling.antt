@@ -29,7 +29,8 @@ use Rattle.rounds.specs.declared.Pairing.{Pairing}
 use Rattle.grants.specs.Grants.{grantsOf}
 use Rattle.rounds.specs.Pairs.{Pairs}
 use Rattle.tracks.specs.declared.Tracks.{Tracks}
-use Rattle.tracks.specs.Tracks.{tracksOf, tracksIn, givable, givenOne, givenAll, newborn, bornOf}
+use Rattle.one_track.specs.OneTrack.{givable, givenOne, newborn}
+use Rattle.tracks.specs.Tracks.{tracksOf, tracksIn, givenAll, bornOf}
 use Rattle.tracks.proofs.Table as table
 use Rattle.tracks.proofs.Table.{tracks-count, tracks-in, few-given, length-born}
 use Rattle.tracks.proofs.Rules.{every-at}

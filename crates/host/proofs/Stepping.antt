@@ -31,7 +31,8 @@ use Rattle.objects.specs.Dets.{detsIn}
 use Rattle.rounds.specs.declared.Pairing.{Pairing}
 use Rattle.rounds.specs.Pairs.{Pairs}
 use Rattle.tracks.specs.declared.Tracks.{Tracks}
-use Rattle.tracks.specs.Tracks.{tracksOf, tracksIn, givenAll, newborn, bornOf}
+use Rattle.one_track.specs.OneTrack.{newborn}
+use Rattle.tracks.specs.Tracks.{tracksOf, tracksIn, givenAll, bornOf}
 use Rattle.tracks.proofs.Table.{tracks-count, tracks-in}
 use Rattle.reports.specs.Written.{Written}
 use Rattle.settling.specs.Settled.{Answered, joined, settledOn, Ready}

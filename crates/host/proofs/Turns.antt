@@ -15,7 +15,8 @@ use Rattle.strack.specs.declared.Kept.{Kept}
 use Rattle.frame.specs.declared.Settings.{Settings}
 use Rattle.frame.specs.declared.Tracked.{Tracked}
 use Rattle.frame.specs.Frame.{predictTracked, unbroken, isYoung}
-use Rattle.tracks.specs.Tracks.{givenOne, givenAll, newborn}
+use Rattle.one_track.specs.OneTrack.{givenOne, newborn}
+use Rattle.tracks.specs.Tracks.{givenAll}
 use Rattle.tracks.proofs.Table as table
 
 -- the first cells of w are es, and w has 64 cells

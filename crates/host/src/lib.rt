@@ -64,7 +64,7 @@ pub extern "C" fn satinjacks_update_lists(
             count: 0,
         };
     }
-    let blank = tracks::blank();
+    let blank = one_track::blank();
     let mut table = [blank; 64];
     let mut from = 0;
     let mut u = 0;
@@ -91,8 +91,8 @@ pub extern "C" fn satinjacks_update_lists(
     let mut p = 0;
     while p < count {
         let before = table[p];
-        let e = tracks::predict_one(before);
-        if tracks::is_unbroken(e) {
+        let e = one_track::predict_one(before);
+        if one_track::is_unbroken(e) {
             table[ahead] = e;
             ahead += 1;
         }
@@ -142,8 +142,8 @@ pub extern "C" fn satinjacks_update_lists(
     while g < ahead {
         let before = table[g];
         let k = grants[g];
-        let e = tracks::give(before, k, s.delta_t);
-        if tracks::is_young(s, e) {
+        let e = one_track::give(before, k, s.delta_t);
+        if one_track::is_young(s, e) {
             table[young] = e;
             young += 1;
         }
@@ -152,7 +152,7 @@ pub extern "C" fn satinjacks_update_lists(
     let mut b = 0;
     while b < births {
         let d = matching::detection_at(&cells, b);
-        let e = tracks::birth(issued + b as u64, d);
+        let e = one_track::birth(issued + b as u64, d);
         table[young + b] = e;
         b += 1;
     }

@@ -29,7 +29,8 @@ use Rattle.rounds.specs.declared.Pairing.{Pairing}
 use Rattle.grants.specs.Grants.{grantsOf}
 use Rattle.rounds.specs.Pairs.{Pairs}
 use Rattle.tracks.specs.declared.Tracks.{Tracks}
-use Rattle.tracks.specs.Tracks.{tracksOf, tracksIn, givable, givenAll, bornOf}
+use Rattle.one_track.specs.OneTrack.{givable}
+use Rattle.tracks.specs.Tracks.{tracksOf, tracksIn, givenAll, bornOf}
 use Rattle.tracks.proofs.Agree.{births-born, give-all-given}
 use Rattle.tracks.proofs.Rules.{predicted-givable, predicted-short}
 use Rattle.settling.specs.Settled.{Answered, joined, settledOn, Ready}

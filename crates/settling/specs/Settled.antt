@@ -17,7 +17,8 @@ use Rattle.frame.specs.Frame.{reports, Out, reportsOf, isYoung, boxesAfter, ids
 use Rattle.frame.specs.Contract.{outcomeOf, reportsIn}
 use Rattle.tracks.specs.declared.Tracks.{Tracks}
 use Rattle.objects.specs.Dets.{detsIn}
-use Rattle.tracks.specs.Tracks.{tracksIn, givable, givenAll, bornOf}
+use Rattle.one_track.specs.OneTrack.{givable}
+use Rattle.tracks.specs.Tracks.{tracksIn, givenAll, bornOf}
 
 -- r and the buffers are the answer o, every cell
 pub record Answered (o : Out Tracker) (boxes : List Float) (ids : List ℕ) (r : Answer) (boxes′ : List Float) (ids′ : List ℕ) : Type 0 where

@@ -11,7 +11,8 @@ use Rattle.frame.specs.declared.Tracked.{Tracked}
 use Rattle.frame.specs.Objects.{Obj}
 use Rattle.frame.specs.Rounds.{Grant, Slot, keptOf, grantOf}
 use Rattle.frame.specs.Frame.{withTrack, give, giveAll, births}
-use Rattle.tracks.specs.Tracks.{givenTo, givenAll, newborn, bornOf}
+use Rattle.one_track.specs.OneTrack.{givenTo, newborn}
+use Rattle.tracks.specs.Tracks.{givenAll, bornOf}
 
 -- ---- births
 

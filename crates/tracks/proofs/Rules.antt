@@ -21,7 +21,7 @@ use Rattle.frame.specs.State.{live, trackRules, stateRules}
 use Rattle.lapjv_walk.proofs.Cases.{and-left, and-right}
 use Rattle.frame.proofs.Rules.{ranges, Sound, sound}
 use Rattle.frame.specs.Frame.{predictTracked, unbroken, predictedTracks}
-use Rattle.tracks.specs.Tracks.{givable}
+use Rattle.one_track.specs.OneTrack.{givable}
 
 -- ---- tests
 
@@ -36,12 +36,6 @@ every-at p (x ∷ l) (suc i) d e h = every-at p l i d (and-right (p x) (every p 
 -- at a place among the first n
 pub every-taken : {A : Type 0} (p : A → Bool) (l : List A) (n i : ℕ) (d : A) → every p (take n l) ≡ true → i < n → i < length l → p (getD l i d) ≡ true
 every-taken p l n i d e h m = sym (ap p (getD-take n l i d h)) ∙ every-at p (take n l) i d e (omega (arith, length-take n l))
-
--- ---- what `given` needs
-
-pub can-be-given : (e : Tracked) → givable e ≡ true → (e .track .since ≤ 256) × (e .track .streak ≤ 1000000)
-unfolding givable
-can-be-given e h = (leb-true _ _ (and-left (leb (e .track .since) 256) (leb (e .track .streak) 1000000) h), leb-true _ _ (and-right (leb (e .track .since) 256) (leb (e .track .streak) 1000000) h))
 
 -- ---- the rules of a track
 

@@ -17,7 +17,8 @@ use Rattle.strack.specs.declared.Kept.{Kept}
 use Rattle.frame.specs.declared.Tracked.{Tracked}
 use Rattle.frame.specs.State.{blank}
 use Rattle.tracks.specs.declared.Tracks.{Tracks}
-use Rattle.tracks.specs.Tracks.{tracksOf, tracksIn, givenOne, givenAll, newborn, bornOf}
+use Rattle.one_track.specs.OneTrack.{givenOne, newborn}
+use Rattle.tracks.specs.Tracks.{tracksOf, tracksIn, givenAll, bornOf}
 
 -- ---- the table
 

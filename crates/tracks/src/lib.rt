@@ -3,23 +3,18 @@
 use frame::Settings;
 use frame::Tracked;
 use frame::Tracker;
-use object::Corners;
-use object::Detection;
 use objects::Dets;
-use strack::Direction;
 use strack::Kept;
-use strack::LastBox;
-use strack::ListBox;
-use strack::Track;
 ghost use mathlib.Core.Path.{_≡_};
 ghost use mathlib.Core.Bool.{true};
 ghost use mathlib.Core.List.{[], _++_};
-ghost use Prim.Native.Nat.{_+_, _≤_, _<_};
+ghost use Prim.Native.Nat.{_+_, _≤_};
 ghost use Rattle.lists.specs.Lists.{keep, every};
-ghost use Rattle.frame.specs.State.{blank, live, stateRules};
-ghost use Rattle.frame.specs.Frame.{hasNan, predictTracked, unbroken, predictedTracks, isYoung};
+ghost use Rattle.frame.specs.State.{live, stateRules};
+ghost use Rattle.frame.specs.Frame.{predictedTracks, isYoung};
 ghost use Rattle.objects.specs.Dets.{detsIn};
-ghost use Rattle.tracks.specs.Tracks.{tracksOf, tracksIn, givable, givenOne, givenAll, newborn, bornOf};
+ghost use Rattle.one_track.specs.OneTrack.{givable};
+ghost use Rattle.tracks.specs.Tracks.{tracksOf, tracksIn, givenAll, bornOf};
 
 // Up to 64 tracks in birth order; cells past them are blank.
 pub struct Tracks {
@@ -27,34 +22,11 @@ pub struct Tracks {
     pub table: [Tracked; 64],
 }
 
-// What stands in a cell that holds no track.
-pub fn blank() -> Tracked
-    ensures { λ r. ⌜ r ≡ blank ⌝ }
-{
-    let none = strack::no_filter();
-    let unseen = Kept {
-        at: LastBox::Unseen,
-    };
-    let track = Track {
-        filter: none,
-        saved: none,
-        frozen: false,
-        age: 0,
-        streak: 0,
-        since: 0,
-        last: LastBox::Unseen,
-        list: ListBox::Empty,
-        direction: Direction::Unknown,
-        kept: [unseen; 8],
-    };
-    Tracked { id: 0, track }
-}
-
 // No tracks.
 pub fn none() -> Tracks
     ensures { λ r. ⌜ r ≡ tracksOf [] ⌝ }
 {
-    let blank = blank();
+    let blank = one_track::blank();
     Tracks {
         count: 0,
         table: [blank; 64],
@@ -62,38 +34,6 @@ pub fn none() -> Tracks
 }
 
 // ---- prediction
-
-fn has_nan(b: Corners) -> bool
-    ensures { λ r. ⌜ r ≡ hasNan b ⌝ }
-{
-    if ieee::is_nan(b.x1) {
-        return true;
-    }
-    if ieee::is_nan(b.y1) {
-        return true;
-    }
-    if ieee::is_nan(b.x2) {
-        return true;
-    }
-    ieee::is_nan(b.y2)
-}
-
-pub fn predict_one(e: Tracked) -> Tracked
-    requires { ⌜ (e .track .age + 1 < 4294967296) × (e .track .since + 1 < 4294967296) ⌝ }
-    ensures { λ r. ⌜ r ≡ predictTracked e ⌝ }
-{
-    let t = e.track;
-    let track = strack::predict(t);
-    Tracked { id: e.id, track }
-}
-
-pub fn is_unbroken(e: Tracked) -> bool
-    ensures { λ r. ⌜ r ≡ unbroken e ⌝ }
-{
-    let t = e.track;
-    let f = t.filter;
-    !has_nan(strack::get_state(f))
-}
 
 // The tracks one frame ahead, without the broken ones.
 pub fn predicted(t: Tracker) -> Tracks
@@ -105,8 +45,8 @@ pub fn predicted(t: Tracker) -> Tracks
     let mut i = 0;
     while i < n {
         let e = t.table[i];
-        let p = predict_one(e);
-        if is_unbroken(p) {
+        let p = one_track::predict_one(e);
+        if one_track::is_unbroken(p) {
             let at = out.count;
             out.table[at] = p;
             out.count = at + 1;
@@ -117,34 +57,6 @@ pub fn predicted(t: Tracker) -> Tracks
 }
 
 // ---- boxes and misses
-
-// One track given the box that it was granted, or a miss.
-pub fn give(e: Tracked, k: Kept, delta_t: u32) -> Tracked
-    requires { ⌜ («delta_t» ≤ 8) × (givable e ≡ true) ⌝ }
-    ensures { λ r. ⌜ r ≡ givenOne «delta_t» k e ⌝ }
-{
-    let t = e.track;
-    let l = k.at;
-    match l {
-        LastBox::Unseen => Tracked {
-            id: e.id,
-            track: strack::update_none(t),
-        },
-        LastBox::Seen(x1, y1, x2, y2, score) => {
-            let d = Detection {
-                x1,
-                y1,
-                x2,
-                y2,
-                score,
-            };
-            Tracked {
-                id: e.id,
-                track: strack::update(t, delta_t, d),
-            }
-        }
-    }
-}
 
 // Each track given what it was granted.
 pub fn given(ts: Tracks, grants: [Kept; 64], delta_t: u32) -> Tracks
@@ -157,7 +69,7 @@ pub fn given(ts: Tracks, grants: [Kept; 64], delta_t: u32) -> Tracks
     while i < n {
         let e = ts.table[i];
         let k = grants[i];
-        let g = give(e, k, delta_t);
+        let g = one_track::give(e, k, delta_t);
         let at = out.count;
         out.table[at] = g;
         out.count = at + 1;
@@ -167,15 +79,6 @@ pub fn given(ts: Tracks, grants: [Kept; 64], delta_t: u32) -> Tracks
 }
 
 // ---- births
-
-pub fn birth(id: u64, d: Detection) -> Tracked
-    ensures { λ r. ⌜ r ≡ newborn id d ⌝ }
-{
-    Tracked {
-        id,
-        track: strack::birth(d),
-    }
-}
 
 // The detections that are left are born, under the next ids.
 pub fn born(ts: Tracks, left: Dets, issued: u64) -> Tracks
@@ -188,7 +91,7 @@ pub fn born(ts: Tracks, left: Dets, issued: u64) -> Tracks
     let mut i = 0;
     while i < n {
         let d = matching::detection_at(&cells, i);
-        let b = birth(issued + i as u64, d);
+        let b = one_track::birth(issued + i as u64, d);
         let at = out.count;
         out.table[at] = b;
         out.count = at + 1;
@@ -198,13 +101,6 @@ pub fn born(ts: Tracks, left: Dets, issued: u64) -> Tracks
 }
 
 // ---- ageing
-
-pub fn is_young(s: Settings, e: Tracked) -> bool
-    ensures { λ r. ⌜ r ≡ isYoung s e ⌝ }
-{
-    let t = e.track;
-    t.since <= s.max_age
-}
 
 // The tracks that have not aged out.
 pub fn aged(ts: Tracks, s: Settings) -> Tracks
@@ -216,7 +112,7 @@ pub fn aged(ts: Tracks, s: Settings) -> Tracks
     let mut i = 0;
     while i < n {
         let e = ts.table[i];
-        if is_young(s, e) {
+        if one_track::is_young(s, e) {
             let at = out.count;
             out.table[at] = e;
             out.count = at + 1;

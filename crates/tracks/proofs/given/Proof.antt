@@ -4,7 +4,8 @@ use mathlib.Core.Path.{_≡_, refl}
 use Prim.Native.Nat.{_-_, _≤_}
 use native.Mathlib.Omega.{arith}
 use lib.ListN.{length, take}
-use Rattle.tracks.specs.Tracks.{tracksOf, givable, givenAll}
+use Rattle.one_track.specs.OneTrack.{givable}
+use Rattle.tracks.specs.Tracks.{tracksOf, givenAll}
 use Rattle.tracks.proofs.Table.{given-room, given-turn}
 use Rattle.tracks.proofs.Rules.{every-taken}
 use Rattle.tracks.proofs.Known.{tracks-long}

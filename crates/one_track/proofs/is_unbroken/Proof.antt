@@ -1,7 +1,7 @@
--- `tracks::is_unbroken` meets its contract. Assumes nothing.
+-- `one_track::is_unbroken` meets its contract. Assumes nothing.
 use borrow.Author.Needs.{needs}
-use Rattle.tracks.proofs.is_unbroken.Statement.{statement}
-use Rattle.tracks.proofs.is_unbroken.Tie as tie
+use Rattle.one_track.proofs.is_unbroken.Statement.{statement}
+use Rattle.one_track.proofs.is_unbroken.Tie as tie
 
 get-state-requires : tie.Need-get-state-requires
 get-state-requires c κs = search needs

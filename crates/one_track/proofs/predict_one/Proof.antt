@@ -1,7 +1,7 @@
--- `tracks::predict_one` meets its contract. Assumes nothing.
+-- `one_track::predict_one` meets its contract. Assumes nothing.
 use borrow.Author.Needs.{needs}
-use Rattle.tracks.proofs.predict_one.Statement.{statement}
-use Rattle.tracks.proofs.predict_one.Tie as tie
+use Rattle.one_track.proofs.predict_one.Statement.{statement}
+use Rattle.one_track.proofs.predict_one.Tie as tie
 
 predict-requires : tie.Need-predict-requires
 predict-requires c κs = search needs

@@ -1,7 +1,7 @@
--- `tracks::birth` meets its contract. Assumes nothing.
+-- `one_track::birth` meets its contract. Assumes nothing.
 use borrow.Author.Needs.{needs}
-use Rattle.tracks.proofs.birth.Statement.{statement}
-use Rattle.tracks.proofs.birth.Tie as tie
+use Rattle.one_track.proofs.birth.Statement.{statement}
+use Rattle.one_track.proofs.birth.Tie as tie
 
 birth-requires : tie.Need-birth-requires
 birth-requires c κs = search needs

@@ -1,8 +1,8 @@
--- `tracks::blank` meets its contract. Assumes nothing.
+-- `one_track::blank` meets its contract. Assumes nothing.
 use borrow.Author.Needs.{needs}
 use Rattle.frame.specs.State.{blank}
-use Rattle.tracks.proofs.blank.Statement.{statement}
-use Rattle.tracks.proofs.blank.Tie as tie
+use Rattle.one_track.proofs.blank.Statement.{statement}
+use Rattle.one_track.proofs.blank.Tie as tie
 
 no-filter-requires : tie.Need-no-filter-requires
 no-filter-requires c κs = search needs

@@ -1,8 +1,8 @@
--- `tracks::give` meets its contract. Assumes nothing.
+-- `one_track::give` meets its contract. Assumes nothing.
 use borrow.Author.Needs.{needs}
-use Rattle.tracks.proofs.Rules.{can-be-given}
-use Rattle.tracks.proofs.give.Statement.{statement}
-use Rattle.tracks.proofs.give.Tie as tie
+use Rattle.one_track.proofs.Given.{can-be-given}
+use Rattle.one_track.proofs.give.Statement.{statement}
+use Rattle.one_track.proofs.give.Tie as tie
 
 enum-told : tie.Need-enum-told
 enum-told c = search needs

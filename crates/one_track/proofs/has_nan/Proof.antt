@@ -1,9 +1,9 @@
--- `tracks::has_nan` meets its contract. Assumes nothing.
+-- `one_track::has_nan` meets its contract. Assumes nothing.
 use borrow.Author.Needs.{needs}
 use lib.Ieee.{isNan}
 use Rattle.frame.specs.Frame.{hasNan}
-use Rattle.tracks.proofs.has_nan.Statement.{statement}
-use Rattle.tracks.proofs.has_nan.Tie as tie
+use Rattle.one_track.proofs.has_nan.Statement.{statement}
+use Rattle.one_track.proofs.has_nan.Tie as tie
 
 is-nan-requires : tie.Need-is-nan-requires
 is-nan-requires c κs = search needs
