@@ -1,54 +1,52 @@
 // The line that asks for an assignment.
+ghost use Prim.Native.Nat.{_≤_};
 use crate::Answer;
 use crate::mark_lines;
 use crate::within;
 use lapjv::Assigned;
 
-// `lap N XLEN YLEN` and the costs. More costs or longer lists than any n allows are cut to sizes that still fit none.
-pub fn answer(line: &[u8], out: &mut [u8], at: usize) -> Answer {
-    let s = crate::three(line, 3);
-    let mut costs = [0.0f64; 4352];
-    let c = protocol::read_f64s(line, s.end, &mut costs);
-    if s.good & c.good {
-        let p = put_assigned(out, at, s.a as usize, &costs, c.n, s.b, s.c);
-        return Answer::Ends(p);
-    }
-    Answer::Bad
+// The marks of n rows and columns, if the line is good and they are paired.
+pub struct Pairs {
+    pub good: bool,
+    pub paired: bool,
+    pub n: usize,
+    pub x: [i64; 128],
+    pub y: [i64; 128],
 }
 
-fn put_assigned(
-    out: &mut [u8],
-    at: usize,
-    n: usize,
-    costs: &[f64],
-    count: usize,
-    a: u64,
-    b: u64,
-) -> usize {
+// `lap N XLEN YLEN` and the costs. More costs or longer lists than any n allows are cut to sizes that still fit none.
+pub fn read(line: &[u8]) -> Pairs {
+    let n = protocol::whole_word(line, 3);
+    let a = protocol::whole_word(line, n.end);
+    let b = protocol::whole_word(line, a.end);
+    let mut costs = [0.0f64; 4352];
+    let c = protocol::read_f64s(line, b.end, &mut costs);
+    let k = within(c.n as u64, 4352);
+    let mut p = pairs_of(
+        costs,
+        k,
+        n.value as usize,
+        within(a.value, 128),
+        within(b.value, 128),
+    );
+    p.good = n.good & a.good & b.good & c.good;
+    p
+}
+
+// Pairs by the first k costs, on lists of the lengths a and b.
+fn pairs_of(costs: [f64; 4352], k: usize, n: usize, a: usize, b: usize) -> Pairs
+    requires { ⌜ (k ≤ 4352) × (a ≤ 128) × (b ≤ 128) ⌝ }
+{
     let mut x = [0i64; 128];
     let mut y = [0i64; 128];
-    if assign(n, costs, count, &mut x, a, &mut y, b) {
-        let p = protocol::put_text(out, at, b"ok\n");
-        let p = mark_lines::put_line(out, p, 3, &x, n, n);
-        return mark_lines::put_line(out, p, 4, &y, n, n);
+    let paired = is_paired(lapjv::lapjv(n, &costs[0..k], &mut x[0..a], &mut y[0..b]));
+    Pairs {
+        good: true,
+        paired,
+        n,
+        x,
+        y,
     }
-    protocol::put_text(out, at, b"refused 8\n")
-}
-
-// Pairs by the first so many costs, on lists of the lengths asked for; whether it was not refused.
-fn assign(
-    n: usize,
-    costs: &[f64],
-    count: usize,
-    x: &mut [i64],
-    a: u64,
-    y: &mut [i64],
-    b: u64,
-) -> bool {
-    let k = within(count as u64, costs.len());
-    let a = within(a, x.len());
-    let b = within(b, y.len());
-    is_paired(lapjv::lapjv(n, &costs[0..k], &mut x[0..a], &mut y[0..b]))
 }
 
 fn is_paired(r: Assigned) -> bool {
@@ -57,4 +55,17 @@ fn is_paired(r: Assigned) -> bool {
     } else {
         false
     }
+}
+
+pub fn put(out: &mut [u8], at: usize, p: Pairs) -> Answer {
+    if !p.good {
+        return Answer::Bad;
+    }
+    if !p.paired {
+        return Answer::Ends(protocol::put_text(out, at, b"refused 8\n"));
+    }
+    let x = p.x;
+    let y = p.y;
+    let q = mark_lines::put_line(out, at, 3, &x, 0, p.n);
+    Answer::Ends(mark_lines::put_line(out, q, 4, &y, 0, p.n))
 }

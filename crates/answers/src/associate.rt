@@ -4,10 +4,46 @@ ghost use Prim.Native.Nat.{_≤_};
 ghost use lib.ListN.{length};
 use crate::Answer;
 use crate::mark_lines;
+use crate::size_of;
 use matching::Marks;
 
-// The round on numbers that are the threshold, the inertia, the objects, the predicted boxes, the directions and the previous boxes.
-fn round(numbers: &[f32], nd: usize, nt: usize) -> Marks
+// How many objects and tracks, and the objects' marks, if the line is good.
+pub struct Round {
+    pub good: bool,
+    pub objects: usize,
+    pub tracks: usize,
+    pub of: [i64; 64],
+}
+
+// `assoc ND NT` and the numbers.
+pub fn read(line: &[u8]) -> Round {
+    let d = protocol::whole_word(line, 5);
+    let t = protocol::whole_word(line, d.end);
+    let mut numbers = [0.0f32; 1026];
+    let c = protocol::read_f32s(line, t.end, &mut numbers);
+    let d = size_of(d, 64);
+    let t = size_of(t, 64);
+    let mut r = round_of(numbers, c.n, d.n, t.n);
+    r.good = r.good & d.good & t.good & c.good;
+    r
+}
+
+// The round of so many objects and tracks, if so many numbers are as many as they ask for.
+fn round_of(numbers: [f32; 1026], count: usize, objects: usize, tracks: usize) -> Round
+    requires { ⌜ (objects ≤ 64) × (tracks ≤ 64) ⌝ }
+{
+    let marks = marks_of(&numbers, objects, tracks);
+    let of = marks.at;
+    Round {
+        good: count == 2 + objects * 5 + tracks * 11,
+        objects,
+        tracks,
+        of,
+    }
+}
+
+// The marks by numbers that are the threshold, the inertia, the objects, the predicted boxes, the directions and the previous boxes.
+fn marks_of(numbers: &[f32], nd: usize, nt: usize) -> Marks
     requires { ⌜ (nd ≤ 64) × (nt ≤ 64) × (length (now numbers) ≡ 1026) ⌝ }
 {
     let boxes = 2 + nd * 5;
@@ -25,24 +61,12 @@ fn round(numbers: &[f32], nd: usize, nt: usize) -> Marks
     )
 }
 
-// `assoc ND NT` and the numbers, of at most 64 objects and tracks.
-pub fn answer(line: &[u8], out: &mut [u8], at: usize) -> Answer {
-    let d = protocol::whole_word(line, 5);
-    let t = protocol::whole_word(line, d.end);
-    let nd = crate::within(d.value, 64);
-    let nt = crate::within(t.value, 64);
-    let mut numbers = [0.0f32; 1026];
-    let c = protocol::read_f32s(line, t.end, &mut numbers);
-    let fits = (d.value == nd as u64) & (t.value == nt as u64) & (c.n == 2 + nd * 5 + nt * 11);
-    if d.good & t.good & c.good & fits {
-        return put_round(out, at, round(&numbers, nd, nt), nd, nt);
+pub fn put(out: &mut [u8], at: usize, r: Round) -> Answer {
+    if !r.good {
+        return Answer::Bad;
     }
-    Answer::Bad
-}
-
-fn put_round(out: &mut [u8], at: usize, found: Marks, nd: usize, nt: usize) -> Answer {
-    let of = found.at;
-    let p = mark_lines::put_line(out, at, 0, &of, nd, nd);
-    let p = mark_lines::put_line(out, p, 1, &of, nd, nd);
-    Answer::Ends(mark_lines::put_line(out, p, 2, &of, nd, nt))
+    let of = r.of;
+    let p = mark_lines::put_line(out, at, 0, &of, r.objects, r.objects);
+    let p = mark_lines::put_line(out, p, 1, &of, r.objects, r.objects);
+    Answer::Ends(mark_lines::put_line(out, p, 2, &of, r.objects, r.tracks))
 }

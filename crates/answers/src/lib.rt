@@ -1,12 +1,13 @@
-// Answers to the comparison's lines that need no tracker.
+// Answers to the comparison's lines that need no tracker. A line is read and worked on by value, and then its answer is put.
 mod assign;
 mod associate;
 mod filter;
 mod mark_lines;
+mod number;
 mod product;
-mod row;
 
 ghost use Prim.Native.Nat.{_≤_};
+use protocol::Word;
 
 // Where the answer ends, or why there is none.
 pub enum Answer {
@@ -23,14 +24,25 @@ pub fn by_word(line: &[u8], out: &mut [u8], at: usize) -> Answer {
         line,
         b"predict update replay lap assoc product widen sqrt acos clamp max min measure box dir iou inverse",
     );
+    if word < 3 {
+        return filter::put(out, at, filter::read(line, word));
+    }
+    if word < 7 {
+        return by_shape(line, out, at, word);
+    }
+    if word < 17 {
+        return number::put(out, at, number::read(line, word));
+    }
+    Answer::Other
+}
+
+// The lines that have each a shape of its own.
+fn by_shape(line: &[u8], out: &mut [u8], at: usize, word: usize) -> Answer {
     match word {
-        0..=2 => filter::answer(line, out, at, word),
-        3 => assign::answer(line, out, at),
-        4 => associate::answer(line, out, at),
-        5 => product::answer(line, out, at),
-        6 => row::widen(line, out, at),
-        7..=16 => row::answer(line, out, at, word),
-        _ => Answer::Other,
+        3 => assign::put(out, at, assign::read(line)),
+        4 => associate::put(out, at, associate::read(line)),
+        5 => product::put(out, at, product::read(line)),
+        _ => number::put_wide(out, at, number::row_at(line, 5)),
     }
 }
 
@@ -41,31 +53,18 @@ fn within(n: u64, most: usize) -> usize
     if n <= most as u64 { n as usize } else { most }
 }
 
-// Three whole numbers that were read, and where they end.
-struct Wholes {
+// A whole number that was read, if it is at most so many.
+struct Size {
     good: bool,
-    a: u64,
-    b: u64,
-    c: u64,
-    end: usize,
+    n: usize,
 }
 
-// The whole numbers behind the blank at `at`.
-fn three(line: &[u8], at: usize) -> Wholes {
-    let a = protocol::whole_word(line, at);
-    let b = protocol::whole_word(line, a.end);
-    let c = protocol::whole_word(line, b.end);
-    Wholes {
-        good: a.good & b.good & c.good,
-        a: a.value,
-        b: b.value,
-        c: c.value,
-        end: c.end,
+fn size_of(w: Word, most: usize) -> Size
+    ensures { λ r. ⌜ r .n ≤ most ⌝ }
+{
+    let n = within(w.value, most);
+    Size {
+        good: w.good & (w.value == n as u64),
+        n,
     }
-}
-
-// An answer of the first so many numbers.
-fn put_numbers(out: &mut [u8], at: usize, numbers: &[f32], count: usize) -> Answer {
-    let p = protocol::put_row(out, at, numbers, count);
-    Answer::Ends(protocol::put(out, p, b'\n'))
 }

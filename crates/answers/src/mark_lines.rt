@@ -1,57 +1,83 @@
 // Lines of marks, which say for each index of one list the index of another, or that it has none.
 
-// The index that the mark at a place is, 0 where it is none.
-fn mark_at(marks: &[i64], i: usize) -> u64 {
-    if i < marks.len() { whole(marks[i]) } else { 0 }
+// A mark: whether it is an index, and which.
+struct Mark {
+    is: bool,
+    index: u64,
 }
 
-fn whole(m: i64) -> u64 {
+fn mark_of(m: i64) -> Mark {
     if lapjv_walk::is_free(m) {
-        return 0;
+        return Mark {
+            is: false,
+            index: 0,
+        };
     }
-    lapjv_walk::index_of(m) as u64
+    Mark {
+        is: true,
+        index: lapjv_walk::index_of(m) as u64,
+    }
 }
 
-// Whether the mark at a place is an index.
-fn is_marked(marks: &[i64], i: usize) -> bool {
-    if i < marks.len() {
-        !lapjv_walk::is_free(marks[i])
-    } else {
-        false
-    }
+// The mark at a place; none past the end.
+fn mark_at(marks: &[i64], i: usize) -> Mark {
+    mark_of(if i < marks.len() { marks[i] } else { -1 })
+}
+
+fn is_index(m: Mark, i: usize) -> bool {
+    m.is & (m.index == i as u64)
 }
 
 // Whether one of the first so many marks is this index.
-fn is_taken(marks: &[i64], count: usize, of: usize) -> bool {
+fn is_taken(marks: &[i64], count: usize, index: usize) -> bool {
     let mut taken = false;
     let mut i = 0;
     while i < count {
-        taken = taken | (is_marked(marks, i) & (mark_at(marks, i) == of as u64));
+        taken = taken | is_index(mark_at(marks, i), index);
         i += 1;
     }
     taken
 }
 
-// Puts a whole number behind a blank, if it is shown.
-fn put_count(out: &mut [u8], at: usize, x: u64, is_shown: bool) -> usize {
+// What is shown of an index: nothing, or a number, and behind a comma another.
+struct Shown {
+    one: bool,
+    first: u64,
+    two: bool,
+    second: u64,
+}
+
+// An index on the line of that number.
+fn on_line(line: usize, i: u64, m: Mark, is_taken: bool) -> Shown {
+    let mut s = Shown {
+        one: m.is,
+        first: i,
+        two: line == 0,
+        second: m.index,
+    };
+    s.two = s.two & m.is;
+    if line == 1 {
+        s.one = !m.is;
+    }
+    if line == 2 {
+        s.one = !is_taken;
+    }
+    if 2 < line {
+        s.first = m.index;
+    }
+    s
+}
+
+// Puts a whole number behind a byte, if it is shown.
+fn put_if(out: &mut [u8], at: usize, is_shown: bool, b: u8, x: u64) -> usize {
     if is_shown {
-        let p = protocol::put(out, at, b' ');
+        let p = protocol::put(out, at, b);
         return protocol::put_whole(out, p, x);
     }
     at
 }
 
-// Puts an index with its mark, if it has one.
-fn put_pair(out: &mut [u8], at: usize, marks: &[i64], i: usize) -> usize {
-    if is_marked(marks, i) {
-        let p = put_count(out, at, i as u64, true);
-        let p = protocol::put(out, p, b',');
-        return protocol::put_whole(out, p, mark_at(marks, i));
-    }
-    at
-}
-
-// Puts what a line shows of an index.
+// Puts what the line of that number shows of an index.
 fn put_index(
     out: &mut [u8],
     at: usize,
@@ -60,16 +86,13 @@ fn put_index(
     count: usize,
     i: usize,
 ) -> usize {
-    match line {
-        0 => put_pair(out, at, marks, i),
-        1 => put_count(out, at, i as u64, !is_marked(marks, i)),
-        2 => put_count(out, at, i as u64, !is_taken(marks, count, i)),
-        _ => put_count(out, at, mark_at(marks, i), true),
-    }
+    let s = on_line(line, i as u64, mark_at(marks, i), is_taken(marks, count, i));
+    let p = put_if(out, at, s.one, b' ', s.first);
+    put_if(out, p, s.two, b',', s.second)
 }
 
-// Puts one of the lines `matches`, `dets`, `tracks`, `x` and `y` on the first n indices, by its number among them: those with a mark
-// and their marks, those without one, those that are none of the first so many marks, and the marks of all.
+// Puts one of the lines `matches`, `dets`, `tracks`, `x`, behind the line `ok`, and `y` on the first n indices, by its number among
+// them: those with a mark and their marks, those without one, those that are none of the first so many marks, and the marks of all.
 pub fn put_line(
     out: &mut [u8],
     at: usize,
@@ -78,7 +101,7 @@ pub fn put_line(
     count: usize,
     n: usize,
 ) -> usize {
-    let mut to = protocol::put_nth(out, at, b"matches dets tracks x y", line);
+    let mut to = protocol::put_nth(out, at, b"matches dets tracks ok\nx y", line);
     let mut i = 0;
     while i < n {
         to = put_index(out, to, line, marks, count, i);

@@ -379,7 +379,7 @@ fn number_at(numbers: &[f32], at: usize) -> f32 {
     if at < numbers.len() { numbers[at] } else { 0.0 }
 }
 
-// Puts the first so many numbers with blanks between them.
+// Puts the first so many numbers with blanks between them, and ends the line.
 pub fn put_row(out: &mut [u8], at: usize, numbers: &[f32], count: usize) -> usize {
     let mut to = put_f32(out, at, number_at(numbers, 0));
     let mut i = 1;
@@ -387,5 +387,5 @@ pub fn put_row(out: &mut [u8], at: usize, numbers: &[f32], count: usize) -> usiz
         to = put_next_f32(out, to, number_at(numbers, i));
         i += 1;
     }
-    to
+    put(out, to, b'\n')
 }

@@ -5,19 +5,19 @@ use Rattle.answers.proofs.mark_lines.is_taken.Statement.{statement}
 use Rattle.answers.proofs.mark_lines.is_taken.Tie as tie
 
 abbrev Inv-loop : tie.InvT-loop
-Inv-loop marks count of taken₀ i₀ taken i = i ≤ count
+Inv-loop marks count index taken₀ i₀ taken i = i ≤ count
 
 abbrev μ-loop : tie.MeasureT-loop
-μ-loop marks count of taken₀ i₀ taken i = count - i
+μ-loop marks count index taken₀ i₀ taken i = count - i
 
 loop-holds : tie.Need-loop-holds Inv-loop μ-loop
 loop-holds c = search needs
 
-is-marked-requires : tie.Need-is-marked-requires Inv-loop μ-loop
-is-marked-requires c κs = search needs
-
 mark-at-requires : tie.Need-mark-at-requires Inv-loop μ-loop
 mark-at-requires c κs = search needs
+
+is-index-requires : tie.Need-is-index-requires Inv-loop μ-loop
+is-index-requires c κs = search needs
 
 add-i : tie.Need-add-i Inv-loop μ-loop
 add-i c = search needs
@@ -38,8 +38,8 @@ is-taken-spec =
     Inv-loop
     μ-loop
     loop-holds
-    is-marked-requires
     mark-at-requires
+    is-index-requires
     add-i
     loop-less
     loop-again

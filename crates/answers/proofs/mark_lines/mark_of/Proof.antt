@@ -1,8 +1,8 @@
--- `answers::mark_lines::whole` meets its contract. Assumes nothing.
+-- `answers::mark_lines::mark_of` meets its contract. Assumes nothing.
 use borrow.Author.Needs.{needs}
 use mathlib.Core.Path.{sym, _∙_}
-use Rattle.answers.proofs.mark_lines.whole.Statement.{statement}
-use Rattle.answers.proofs.mark_lines.whole.Tie as tie
+use Rattle.answers.proofs.mark_lines.mark_of.Statement.{statement}
+use Rattle.answers.proofs.mark_lines.mark_of.Tie as tie
 
 is-free-requires : tie.Need-is-free-requires
 is-free-requires c κs = search needs
@@ -16,5 +16,5 @@ index-of-requires c κs = sym (c .before .is-free .ensures) ∙ c .if1 .left
 returns-2 : tie.Need-returns-2
 returns-2 c = search needs
 
-pub whole-spec : {M : Type 1} → statement M
-whole-spec = tie.close (tie.spec is-free-requires returns index-of-requires returns-2)
+pub mark-of-spec : {M : Type 1} → statement M
+mark-of-spec = tie.close (tie.spec is-free-requires returns index-of-requires returns-2)
