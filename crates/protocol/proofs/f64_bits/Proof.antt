@@ -1,10 +1,6 @@
 -- `protocol::f64_bits` meets its contract. Assumes nothing.
 use borrow.Author.Needs.{needs}
-use mathlib.Core.Path.{sym, _∙_, subst}
-use native.Mathlib.Omega.{arith}
-use lib.Dec.{T}
-use lib.Ieee.{binary64}
-use lib.Ieee.Bits.{toBits-lt}
+use mathlib.Core.Path.{sym, _∙_}
 use Rattle.ieee.proofs.Nans.{ne-self, no-nan}
 use Rattle.protocol.proofs.f64_bits.Statement.{statement}
 use Rattle.protocol.proofs.f64_bits.Tie as tie

@@ -1,6 +1,5 @@
 -- `protocol::is_word` meets its contract. Assumes nothing.
 use borrow.Author.Needs.{needs}
-use mathlib.Core.Path.{_≡_}
 use Prim.Native.Nat.{_-_, _≤_}
 use lib.ListN.{length}
 use Rattle.protocol.proofs.is_word.Statement.{statement}

@@ -1,6 +1,5 @@
 -- `state_lines::hash` meets its contract. Assumes nothing.
 use borrow.Author.Needs.{needs}
-use mathlib.Core.Path.{_≡_}
 use Prim.Native.Nat.{_-_, _≤_}
 use lib.ListN.{length}
 use Rattle.state_lines.proofs.hash.Statement.{statement}
