@@ -1,174 +1,184 @@
-// The lines of the comparison with the original, answered one after another from standard input to standard output until the input
-// ends: the programs `replay` and `edges` are this on their own lines.
-mod faults;
-mod held;
+// The answer to a line of the comparison with the original, and the tracker that is held after it.
+pub mod faults;
 
-ghost use Prim.Native.Nat.{_≤_};
+use answers::Answer;
 use faults::Fault;
-use held::Reply;
-use held::Session;
-use libc::STDIN_FILENO;
-use libc::STDOUT_FILENO;
+use faults::put_error;
+use frame_lines::Told;
+use state_lines::Loading;
 
-// Room for the longest line, and for the longest answer behind others that wait.
-const LINE: usize = 131072;
-
-const ANSWER: usize = 131072;
-
-// What has been read and not yet taken, what waits to be written, and the number of the next line.
-struct Stream {
-    at: usize,
-    end: usize,
-    waiting: usize,
-    number: u64,
-    open: bool,
+// The tracker that is held, if one is, or the one whose lines are still coming.
+pub struct Session {
+    pub held: bool,
+    pub loading: bool,
+    pub load: Loading,
 }
 
-// A line that was taken, its length, and whether it fits its buffer. At the end of the input there may be none.
-struct Taken {
-    stream: Stream,
-    is_line: bool,
-    fits: bool,
-    length: usize,
+// Where an answer ends, and what is held after it.
+pub struct Reply {
+    pub at: usize,
+    pub session: Session,
 }
 
-// n, at most a length.
-fn within(n: usize, length: usize) -> usize
-    ensures { λ r. ⌜ r ≤ length ⌝ }
-{
-    if n <= length { n } else { length }
-}
-
-fn flush(answers: &[u8], waiting: usize) {
-    if waiting <= answers.len() {
-        io::write_all(STDOUT_FILENO, &answers[0..waiting]);
+pub fn new() -> Session {
+    Session {
+        held: false,
+        loading: false,
+        load: state_lines::begin(b"load"),
     }
 }
 
-// Reads on, after writing what waits: every line is answered before the next is waited for.
-fn refill(chunk: &mut [u8], answers: &[u8], waiting: usize) -> usize {
-    flush(answers, waiting);
-    let got = libc::read(STDIN_FILENO, chunk);
-    io::count(got, chunk)
-}
-
-// Takes the bytes up to the next line feed. Nothing says that a line ends, so the turns are counted down from a number that
-// no run uses up.
-fn take(chunk: &mut [u8], line: &mut [u8], answers: &[u8], s: Stream) -> Taken {
-    let mut at = s.at;
-    let mut end = s.end;
-    let mut waiting = s.waiting;
-    let mut open = true;
-    let mut fits = true;
-    let mut is_line = false;
-    let mut n = 0;
-    let mut turns = u64::MAX;
-    while turns > 0 && open && !is_line {
-        turns -= 1;
-        if end <= at {
-            end = refill(chunk, answers, waiting);
-            at = 0;
-            waiting = 0;
-            open = 0 < end;
-        } else {
-            let b = protocol::byte_at(chunk, at);
-            at = protocol::next(chunk, at);
-            is_line = b == b'\n';
-            if !is_line {
-                fits = n < line.len();
-                n = protocol::put(line, n, b);
-            }
-        }
+// Puts the answer to a line: nothing to an empty one or a remark.
+pub fn answer(line: &[u8], out: &mut [u8], at: usize, number: u64, s: Session) -> Reply {
+    if (line.len() == 0) | (protocol::byte_at(line, 0) == b'#') {
+        return Reply { at, session: s };
     }
-    Taken {
-        stream: Stream {
-            at,
-            end,
-            waiting,
-            number: s.number,
-            open,
-        },
-        is_line: is_line || 0 < n,
-        fits,
-        length: n,
+    if s.loading {
+        return load_more(line, out, at, number, s);
+    }
+    let word = protocol::which(line, b"load new frame repeat state hash");
+    if word == 0 {
+        return load(line, at);
+    }
+    if word < 4 {
+        return tell(line, out, at, number, s, word);
+    }
+    Reply {
+        at: put_lone(line, out, at, number, s, word),
+        session: s,
     }
 }
 
-// Leaves room for the longest answer.
-fn make_room(answers: &[u8], waiting: usize) -> usize {
-    if ANSWER < waiting {
-        flush(answers, waiting);
-        return 0;
+// The lines that leave what is held.
+fn put_lone(line: &[u8], out: &mut [u8], at: usize, number: u64, s: Session, word: usize) -> usize {
+    if word < 6 {
+        return show(line, out, at, number, s, word == 5);
     }
-    waiting
+    respond(line, out, at, number)
 }
 
-fn put_answer(
-    line: &[u8],
-    answers: &mut [u8],
-    at: usize,
-    number: u64,
-    fits: bool,
-    k: Session,
-) -> Reply {
-    if !fits {
-        return Reply {
-            at: faults::put_error(answers, at, number, Fault::TooLong),
-            session: k,
-        };
+// The lines that need no tracker.
+fn respond(line: &[u8], out: &mut [u8], at: usize, number: u64) -> usize {
+    match answers::by_word(line, out, at) {
+        Answer::Ends(end) => end,
+        Answer::Bad => put_error(out, at, number, Fault::BadNumbers),
+        Answer::Other => put_error(out, at, number, Fault::NoSuchLine),
     }
-    held::answer(line, answers, at, number, k)
 }
 
-// The stream and the session behind a line.
-struct Step {
-    stream: Stream,
-    session: Session,
-}
+// ---- the lines that make a tracker or give it frames
 
-// Answers a line that was taken.
-fn respond(line: &[u8], answers: &mut [u8], t: Taken, k: Session) -> Step {
-    let mut s = t.stream;
-    if !t.is_line {
-        return Step {
-            stream: s,
-            session: k,
-        };
+fn told(line: &[u8], out: &mut [u8], at: usize, t: Told, which: usize) -> Told {
+    match which {
+        1 => frame_lines::new(line, out, at, t),
+        2 => frame_lines::frame(line, out, at, t),
+        _ => frame_lines::repeat(line, out, at, t),
     }
-    let n = within(t.length, line.len());
-    let waiting = make_room(answers, s.waiting);
-    let r = put_answer(&line[0..n], answers, waiting, s.number, t.fits, k);
-    s.waiting = r.at;
-    s.number = std::num::wrapping_add_u64(s.number, 1);
-    let session = r.session;
-    Step { stream: s, session }
 }
 
-// Answers line after line. Nothing says that the input ends, so the turns are counted down as well.
-fn answer_all(chunk: &mut [u8], line: &mut [u8], answers: &mut [u8]) {
-    let mut s = Stream {
-        at: 0,
-        end: 0,
-        waiting: 0,
-        number: 1,
-        open: true,
+fn tell(line: &[u8], out: &mut [u8], at: usize, number: u64, s: Session, which: usize) -> Reply {
+    let mut load = s.load;
+    let image = load.image;
+    let unread = Told {
+        good: false,
+        at,
+        held: s.held,
+        image,
     };
-    let mut k = held::new();
-    let mut turns = u64::MAX;
-    while turns > 0 && s.open {
-        turns -= 1;
-        let t = take(chunk, line, answers, s);
-        let step = respond(line, answers, t, k);
-        s = step.stream;
-        k = step.session;
+    let t = told(line, out, at, unread, which);
+    let image = t.image;
+    load.image = image;
+    Reply {
+        at: put_unless(out, t.at, number, t.good, Fault::BadNumbers),
+        session: Session {
+            held: t.held,
+            loading: false,
+            load,
+        },
     }
-    flush(answers, s.waiting);
 }
 
-// Answers standard input's lines.
-pub fn run() {
-    let mut chunk = io::large_buffer();
-    let mut line = [0u8; LINE];
-    let mut answers = [0u8; 2 * ANSWER];
-    answer_all(&mut chunk, &mut line, &mut answers);
+// What is wrong with a line, unless it was good.
+fn put_unless(out: &mut [u8], at: usize, number: u64, good: bool, fault: Fault) -> usize {
+    if good {
+        return at;
+    }
+    put_error(out, at, number, fault)
+}
+
+// ---- `load`
+
+// A load drops what was held. What is wrong with it is said at its end.
+fn load(line: &[u8], at: usize) -> Reply {
+    let load = state_lines::begin(line);
+    Reply {
+        at,
+        session: Session {
+            held: false,
+            loading: true,
+            load,
+        },
+    }
+}
+
+fn load_more(line: &[u8], out: &mut [u8], at: usize, number: u64, s: Session) -> Reply {
+    let mut u = s;
+    let load = s.load;
+    if !is_only(line, b"end") {
+        let load = state_lines::take(line, load);
+        u.load = load;
+        return Reply { at, session: u };
+    }
+    u.held = state_lines::is_whole(load);
+    u.loading = false;
+    Reply {
+        at: put_unless(out, at, number, u.held, Fault::BadState),
+        session: u,
+    }
+}
+
+// Whether the line is this word alone.
+fn is_only(line: &[u8], word: &[u8]) -> bool {
+    (line.len() == word.len()) & protocol::is_word(line, word)
+}
+
+// ---- `state` and `hash`
+
+// The words are five and four letters, and nothing may stand behind them.
+fn is_bare(line: &[u8], hashed: bool) -> bool {
+    if hashed {
+        return line.len() == 4;
+    }
+    line.len() == 5
+}
+
+fn show(line: &[u8], out: &mut [u8], at: usize, number: u64, s: Session, hashed: bool) -> usize {
+    if !is_bare(line, hashed) {
+        return put_error(out, at, number, Fault::BadNumbers);
+    }
+    if !s.held {
+        return protocol::put_text(out, at, b"no tracker\n");
+    }
+    put_held(out, at, s.load, hashed)
+}
+
+fn put_held(out: &mut [u8], at: usize, l: Loading, hashed: bool) -> usize {
+    let end = state_lines::put_state(out, at, l.image);
+    if hashed {
+        return put_hash(out, at, end);
+    }
+    end
+}
+
+// Puts the hash of the text from `at` to `end` in its place.
+fn put_hash(out: &mut [u8], at: usize, end: usize) -> usize {
+    if end < at {
+        return at;
+    }
+    if out.len() < end {
+        return at;
+    }
+    let h = state_lines::hash(&out[at..end]);
+    let p = protocol::put_hex(out, at, h, 16);
+    protocol::put(out, p, b'\n')
 }

@@ -1,9 +1,9 @@
--- `session::answer_all` meets its contract. Assumes nothing.
+-- `stream::answer_all` meets its contract. Assumes nothing.
 use borrow.Author.Needs.{needs}
 use mathlib.Core.Path.{_≡_}
 use lib.ListN.{length}
-use Rattle.session.proofs.answer_all.Statement.{statement}
-use Rattle.session.proofs.answer_all.Tie as tie
+use Rattle.stream.proofs.answer_all.Statement.{statement}
+use Rattle.stream.proofs.answer_all.Tie as tie
 
 abbrev Inv-loop : tie.InvT-loop
 Inv-loop chunk₀ line₀ answers₀ s₀ k₀ turns₀ chunk line answers s k turns = (length chunk ≡ length chunk₀) × (length line ≡ length line₀) × (length answers ≡ length answers₀)

@@ -1,9 +1,9 @@
--- `session::take` meets its contract. Assumes nothing.
+-- `stream::take` meets its contract. Assumes nothing.
 use borrow.Author.Needs.{needs}
 use mathlib.Core.Path.{_≡_}
 use lib.ListN.{length}
-use Rattle.session.proofs.take.Statement.{statement}
-use Rattle.session.proofs.take.Tie as tie
+use Rattle.stream.proofs.take.Statement.{statement}
+use Rattle.stream.proofs.take.Tie as tie
 
 abbrev Inv-loop : tie.InvT-loop
 Inv-loop chunk₀ line₀ answers s at₀ end₀ waiting₀ open₀ fits₀ is-line₀ n₀ turns₀ chunk line at end waiting «open» fits is-line n turns =
