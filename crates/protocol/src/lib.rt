@@ -21,13 +21,9 @@ pub fn next(line: &[u8], at: usize) -> usize {
     if at < line.len() { at + 1 } else { at }
 }
 
-// Whether a word can end here: at the line's end, or before a blank.
-pub fn is_end(line: &[u8], at: usize) -> bool {
-    if at < line.len() {
-        line[at] == b' '
-    } else {
-        true
-    }
+// The byte at a place, a blank past the end: there a word ends as well.
+fn or_blank(line: &[u8], at: usize) -> u8 {
+    if at < line.len() { line[at] } else { b' ' }
 }
 
 // The value of an upper-case hexadecimal digit, 16 for any other byte.
@@ -75,7 +71,7 @@ fn digits(line: &[u8], at: usize, base: u64, most: usize) -> Word
         w = with_digit(w, hex_value(byte_at(line, w.end)), base, next(line, w.end));
         left -= 1;
     }
-    w.good = w.good & is_end(line, w.end);
+    w.good = w.good & (or_blank(line, w.end) == b' ');
     w
 }
 
@@ -203,64 +199,33 @@ pub fn is_word(line: &[u8], word: &[u8]) -> bool {
         }
         i += 1;
     }
-    is_end(line, i)
-}
-
-// A word of a text beside the line's first word: its number, the place in the line that is compared next, and whether they are the
-// same so far. Once the line's word is found, its number stays.
-struct Beside {
-    found: bool,
-    number: usize,
-    at: usize,
-    same: bool,
-}
-
-// The byte at a place, a blank past the end: there a word ends as well.
-fn or_blank(line: &[u8], at: usize) -> u8 {
-    if at < line.len() { line[at] } else { b' ' }
-}
-
-// One byte further, with that byte of the line and that of the text.
-fn compared(s: Beside, of_line: u8, of_text: u8) -> Beside {
-    let mut n = s;
-    if s.found {
-        return n;
-    }
-    if of_text != b' ' {
-        n.at = std::num::wrapping_add_usize(s.at, 1);
-        n.same = s.same & (of_line == of_text);
-        return n;
-    }
-    n.found = s.same & (of_line == b' ');
-    n.number = after(s.number, !n.found);
-    n.at = 0;
-    n.same = true;
-    n
-}
-
-// The number of the next word, if there is one.
-fn after(number: usize, is_next: bool) -> usize {
-    if is_next {
-        return std::num::wrapping_add_usize(number, 1);
-    }
-    number
+    or_blank(line, i) == b' '
 }
 
 // The number of the line's first word among the words of a text that blanks part, from 0; their count where it is none of them.
 pub fn which(line: &[u8], words: &[u8]) -> usize {
-    let mut s = Beside {
-        found: false,
-        number: 0,
-        at: 0,
-        same: true,
-    };
+    let mut number = 0;
+    let mut at = 0;
+    let mut same = true;
     let mut i = 0;
     while i < words.len() {
-        s = compared(s, or_blank(line, s.at), words[i]);
+        let b = words[i];
+        same = same & (or_blank(line, at) == b);
+        at = std::num::wrapping_add_usize(at, 1);
+        if b == b' ' {
+            if same {
+                return number;
+            }
+            number += 1;
+            at = 0;
+            same = true;
+        }
         i += 1;
     }
-    s = compared(s, or_blank(line, s.at), b' ');
-    s.number
+    if same & (or_blank(line, at) == b' ') {
+        return number;
+    }
+    number + 1
 }
 
 // Puts a byte and answers the next place; where the answer is full, nothing.
@@ -283,14 +248,6 @@ pub fn put_text(out: &mut [u8], at: usize, text: &[u8]) -> usize {
     to
 }
 
-// Puts a byte that is no blank, if it is one of the word that is asked for.
-fn put_of(out: &mut [u8], at: usize, b: u8, is_asked: bool) -> usize {
-    if is_asked & (b != b' ') {
-        return put(out, at, b);
-    }
-    at
-}
-
 // Puts the word of that number of such a text; nothing where there is none.
 pub fn put_nth(out: &mut [u8], at: usize, words: &[u8], n: usize) -> usize {
     let mut to = at;
@@ -298,8 +255,11 @@ pub fn put_nth(out: &mut [u8], at: usize, words: &[u8], n: usize) -> usize {
     let mut i = 0;
     while i < words.len() {
         let b = words[i];
-        number = after(number, b == b' ');
-        to = put_of(out, to, b, number == n);
+        if b == b' ' {
+            number += 1;
+        } else if number == n {
+            to = put(out, to, b);
+        }
         i += 1;
     }
     to
@@ -332,7 +292,7 @@ pub fn put_whole(out: &mut [u8], at: usize, x: u64) -> usize {
 }
 
 // An f32's pattern; any NaN's is the same.
-fn f32_bits(x: f32) -> u64 {
+pub fn f32_bits(x: f32) -> u64 {
     if x != x {
         return 0x7FC0_0000;
     }
@@ -340,27 +300,17 @@ fn f32_bits(x: f32) -> u64 {
 }
 
 // An f64's pattern; any NaN's is the same.
-fn f64_bits(x: f64) -> u64 {
+pub fn f64_bits(x: f64) -> u64 {
     if x != x {
         return 0x7FF8_0000_0000_0000;
     }
     f64::to_bits(x)
 }
 
-// Puts an f32 by its pattern.
-pub fn put_f32(out: &mut [u8], at: usize, x: f32) -> usize {
-    put_hex(out, at, f32_bits(x), 8)
-}
-
-// Puts an f64 by its pattern.
-pub fn put_f64(out: &mut [u8], at: usize, x: f64) -> usize {
-    put_hex(out, at, f64_bits(x), 16)
-}
-
-// Puts an f32 behind a blank.
-fn put_next_f32(out: &mut [u8], at: usize, x: f32) -> usize {
+// Puts an f32 by its pattern behind a blank.
+fn put_f32(out: &mut [u8], at: usize, x: f32) -> usize {
     let p = put(out, at, b' ');
-    put_f32(out, p, x)
+    put_hex(out, p, f32_bits(x), 8)
 }
 
 // Puts each number behind a blank.
@@ -368,7 +318,7 @@ pub fn put_f32s(out: &mut [u8], at: usize, numbers: &[f32]) -> usize {
     let mut to = at;
     let mut i = 0;
     while i < numbers.len() {
-        to = put_next_f32(out, to, numbers[i]);
+        to = put_f32(out, to, numbers[i]);
         i += 1;
     }
     to
@@ -381,10 +331,10 @@ fn number_at(numbers: &[f32], at: usize) -> f32 {
 
 // Puts the first so many numbers with blanks between them, and ends the line.
 pub fn put_row(out: &mut [u8], at: usize, numbers: &[f32], count: usize) -> usize {
-    let mut to = put_f32(out, at, number_at(numbers, 0));
+    let mut to = put_hex(out, at, f32_bits(number_at(numbers, 0)), 8);
     let mut i = 1;
     while i < count {
-        to = put_next_f32(out, to, number_at(numbers, i));
+        to = put_f32(out, to, number_at(numbers, i));
         i += 1;
     }
     put(out, to, b'\n')

@@ -39,8 +39,8 @@ loop-less c = search needs
 loop-again : tie.Need-loop-again Inv-loop μ-loop
 loop-again c = search needs
 
-is-end-requires : tie.Need-is-end-requires Inv-loop μ-loop
-is-end-requires c κs = search needs
+or-blank-requires : tie.Need-or-blank-requires Inv-loop μ-loop
+or-blank-requires c κs = search needs
 
 returns : tie.Need-returns Inv-loop μ-loop
 returns c = search needs
@@ -61,5 +61,5 @@ digits-spec =
     sub-left
     loop-less
     loop-again
-    is-end-requires
+    or-blank-requires
     returns)

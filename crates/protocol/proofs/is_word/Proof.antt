@@ -32,8 +32,8 @@ loop-less c = search needs
 loop-again : tie.Need-loop-again Inv-loop μ-loop
 loop-again c = search needs
 
-is-end-requires : tie.Need-is-end-requires Inv-loop μ-loop
-is-end-requires c κs = search needs
+or-blank-requires : tie.Need-or-blank-requires Inv-loop μ-loop
+or-blank-requires c κs = search needs
 
 returns-2 : tie.Need-returns-2 Inv-loop μ-loop
 returns-2 c = search needs
@@ -51,5 +51,5 @@ is-word-spec =
     add-i
     loop-less
     loop-again
-    is-end-requires
+    or-blank-requires
     returns-2)

@@ -15,14 +15,14 @@ abbrev μ-loop : tie.MeasureT-loop
 loop-holds : tie.Need-loop-holds Inv-loop μ-loop
 loop-holds c = search needs
 
-mul-put-next-f32 : tie.Need-mul-put-next-f32 Inv-loop μ-loop
-mul-put-next-f32 c = search needs
+mul-put-f32 : tie.Need-mul-put-f32 Inv-loop μ-loop
+mul-put-f32 c = search needs
 
-shared-slice-read-put-next-f32 : tie.Need-shared-slice-read-put-next-f32 Inv-loop μ-loop
-shared-slice-read-put-next-f32 c = search needs
+shared-slice-read-put-f32 : tie.Need-shared-slice-read-put-f32 Inv-loop μ-loop
+shared-slice-read-put-f32 c = search needs
 
-put-next-f32-requires : tie.Need-put-next-f32-requires Inv-loop μ-loop
-put-next-f32-requires c κs = search needs
+put-f32-requires : tie.Need-put-f32-requires Inv-loop μ-loop
+put-f32-requires c κs = search needs
 
 add-i : tie.Need-add-i Inv-loop μ-loop
 add-i c = search needs
@@ -46,9 +46,9 @@ put-f32s-spec =
     Inv-loop
     μ-loop
     loop-holds
-    mul-put-next-f32
-    shared-slice-read-put-next-f32
-    put-next-f32-requires
+    mul-put-f32
+    shared-slice-read-put-f32
+    put-f32-requires
     add-i
     loop-less
     loop-again

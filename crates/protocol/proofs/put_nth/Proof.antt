@@ -1,5 +1,6 @@
 -- `protocol::put_nth` meets its contract. Assumes nothing.
 use borrow.Author.Needs.{needs}
+use mathlib.Core.Logic.{⊎-elim}
 use mathlib.Core.Path.{_≡_}
 use Prim.Native.Nat.{_-_, _≤_}
 use lib.ListN.{length}
@@ -7,7 +8,7 @@ use Rattle.protocol.proofs.put_nth.Statement.{statement}
 use Rattle.protocol.proofs.put_nth.Tie as tie
 
 abbrev Inv-loop : tie.InvT-loop
-Inv-loop out₀ at words n to₀ number₀ i₀ out to number i = (i ≤ length words) × (length out ≡ length out₀)
+Inv-loop out₀ at words n to₀ number₀ i₀ out to number i = (i ≤ length words) × (number ≤ i) × (length out ≡ length out₀)
 
 abbrev μ-loop : tie.MeasureT-loop
 μ-loop out₀ at words n to₀ number₀ i₀ out to number i = length words - i
@@ -18,11 +19,11 @@ loop-holds c = search needs
 shared-slice-read-b : tie.Need-shared-slice-read-b Inv-loop μ-loop
 shared-slice-read-b c = search needs
 
-after-requires : tie.Need-after-requires Inv-loop μ-loop
-after-requires c κs = search needs
+add-number : tie.Need-add-number Inv-loop μ-loop
+add-number c = search needs
 
-put-of-requires : tie.Need-put-of-requires Inv-loop μ-loop
-put-of-requires c κs = search needs
+put-requires : tie.Need-put-requires Inv-loop μ-loop
+put-requires c κs = search needs
 
 add-i : tie.Need-add-i Inv-loop μ-loop
 add-i c = search needs
@@ -31,7 +32,8 @@ loop-less : tie.Need-loop-less Inv-loop μ-loop
 loop-less c = search needs
 
 loop-again : tie.Need-loop-again Inv-loop μ-loop
-loop-again c = search needs
+loop-again c =
+    ⊎-elim (λ w. search needs) (λ w. ⊎-elim (λ v. search needs) (λ v. search needs) w) (c .if1 .came)
 
 same-length : tie.Need-same-length Inv-loop μ-loop
 same-length c = search needs
@@ -47,8 +49,8 @@ put-nth-spec =
     μ-loop
     loop-holds
     shared-slice-read-b
-    after-requires
-    put-of-requires
+    add-number
+    put-requires
     add-i
     loop-less
     loop-again

@@ -15,8 +15,11 @@ abbrev μ-loop : tie.MeasureT-loop
 number-at-requires : tie.Need-number-at-requires Inv-loop μ-loop
 number-at-requires c κs = search needs
 
-put-f32-requires : tie.Need-put-f32-requires Inv-loop μ-loop
-put-f32-requires c κs = search needs
+f32-bits-requires : tie.Need-f32-bits-requires Inv-loop μ-loop
+f32-bits-requires c κs = search needs
+
+put-hex-requires : tie.Need-put-hex-requires Inv-loop μ-loop
+put-hex-requires c κs = search needs
 
 loop-holds : tie.Need-loop-holds Inv-loop μ-loop
 loop-holds c = search needs
@@ -24,8 +27,8 @@ loop-holds c = search needs
 number-at-requires-2 : tie.Need-number-at-requires-2 Inv-loop μ-loop
 number-at-requires-2 c κs = search needs
 
-put-next-f32-requires : tie.Need-put-next-f32-requires Inv-loop μ-loop
-put-next-f32-requires c κs = search needs
+put-f32-requires : tie.Need-put-f32-requires Inv-loop μ-loop
+put-f32-requires c κs = search needs
 
 add-i : tie.Need-add-i Inv-loop μ-loop
 add-i c = search needs
@@ -52,10 +55,11 @@ put-row-spec =
     Inv-loop
     μ-loop
     number-at-requires
-    put-f32-requires
+    f32-bits-requires
+    put-hex-requires
     loop-holds
     number-at-requires-2
-    put-next-f32-requires
+    put-f32-requires
     add-i
     loop-less
     loop-again
