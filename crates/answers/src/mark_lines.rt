@@ -52,10 +52,9 @@ fn on_line(line: usize, i: u64, m: Mark, is_taken: bool) -> Shown {
     let mut s = Shown {
         one: m.is,
         first: i,
-        two: line == 0,
+        two: m.is & (line == 0),
         second: m.index,
     };
-    s.two = s.two & m.is;
     if line == 1 {
         s.one = !m.is;
     }
@@ -63,6 +62,7 @@ fn on_line(line: usize, i: u64, m: Mark, is_taken: bool) -> Shown {
         s.one = !is_taken;
     }
     if 2 < line {
+        s.one = true;
         s.first = m.index;
     }
     s

@@ -29,7 +29,7 @@ pub fn nth(of: [f32; 16], at: usize, k: usize) -> f32 {
     if i < 16 { of[i] } else { 0.0 }
 }
 
-// Where the numbers of each word stand, and how many it asks for.
+// Where the numbers of each word from `widen` on stand, and how many it asks for.
 const STARTS: [usize; 17] = [0, 0, 0, 0, 0, 0, 5, 4, 4, 5, 3, 3, 7, 3, 3, 3, 7];
 
 const COUNTS: [usize; 17] = [0, 0, 0, 0, 0, 0, 1, 1, 1, 1, 2, 2, 4, 4, 8, 8, 16];
