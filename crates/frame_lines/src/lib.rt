@@ -1,5 +1,4 @@
 // The lines that make a tracker and give it frames, answered by the tracker itself.
-ghost use Prim.Native.Nat.{_≤_};
 use frame::Answer;
 use frame::Outcome;
 use frame::Tracker;
@@ -86,13 +85,6 @@ fn read_asked(line: &[u8], at: usize) -> Asked {
     }
 }
 
-// n, at most a length.
-fn within(n: usize, length: usize) -> usize
-    ensures { λ r. ⌜ r ≤ length ⌝ }
-{
-    if n <= length { n } else { length }
-}
-
 // How many numbers of a line are given to the frame. More than any frame takes are cut to as many as are still too many, and as
 // ragged.
 fn given(n: usize) -> usize {
@@ -143,15 +135,15 @@ struct Left {
 // A frame of the first n numbers.
 fn update(t: Tracker, input: &[f32; 329], n: usize, boxes: &mut [f32], ids: &mut [u64]) -> Answer {
     let all: &[f32] = input;
-    let k = within(n, all.len());
+    let k = protocol::within(n as u64, all.len());
     oc_sort_tracker::update(t, &all[0..k], boxes, ids)
 }
 
 // One frame on freshly filled buffers.
 fn step(t: Tracker, a: Asked) -> Left {
     let input = a.input;
-    let b = within(a.boxes, 1024);
-    let i = within(a.ids, 256);
+    let b = protocol::within(a.boxes as u64, 1024);
+    let i = protocol::within(a.ids as u64, 256);
     let mut boxes = [BOX; 1024];
     let mut ids = [ID; 256];
     let r = update(t, &input, given(a.count), &mut boxes[0..b], &mut ids[0..i]);

@@ -4,6 +4,15 @@ ghost use mathlib.Core.Path.{_≡_};
 ghost use Prim.Native.Nat.{_<_, _≤_};
 ghost use lib.Ieee.{binary32, binary64, ofBits};
 
+// Where the answer to a line ends, or why there is none.
+pub enum Answer {
+    Ends(usize),
+    // The words behind the first are not what it asks for.
+    Bad,
+    // The first word asks for nothing here.
+    Other,
+}
+
 // A word that was read: where it ends, and its number. A word that is none has `good` false.
 pub struct Word {
     pub good: bool,
@@ -87,6 +96,29 @@ pub fn whole_word(line: &[u8], at: usize) -> Word {
     let mut w = digits(line, at, 10, 11);
     w.good = w.good & (1 < std::num::wrapping_sub_usize(w.end, at)) & (w.value < 0x1_0000_0000);
     w
+}
+
+// n, at most so many.
+pub fn within(n: u64, most: usize) -> usize
+    ensures { λ r. ⌜ r ≤ most ⌝ }
+{
+    if n <= most as u64 { n as usize } else { most }
+}
+
+// A whole number that was read, if it is at most so many.
+pub struct Size {
+    pub good: bool,
+    pub n: usize,
+}
+
+pub fn size_of(w: Word, most: usize) -> Size
+    ensures { λ r. ⌜ r .n ≤ most ⌝ }
+{
+    let n = within(w.value, most);
+    Size {
+        good: w.good & (w.value == n as u64),
+        n,
+    }
 }
 
 // The f32 of a bit pattern, any NaN's too.

@@ -1,10 +1,10 @@
 // The answer to a line of the comparison with the original, and the tracker that is held after it.
 pub mod faults;
 
-use answers::Answer;
 use faults::Fault;
 use faults::put_error;
 use frame_lines::Told;
+use protocol::Answer;
 use state_lines::Loading;
 
 // The tracker that is held, if one is, or the one whose lines are still coming.
@@ -59,7 +59,15 @@ fn put_lone(line: &[u8], out: &mut [u8], at: usize, number: u64, s: Session, wor
 
 // The lines that need no tracker.
 fn respond(line: &[u8], out: &mut [u8], at: usize, number: u64) -> usize {
-    match answers::by_word(line, out, at) {
+    match number_lines::by_word(line, out, at) {
+        Answer::Ends(end) => end,
+        Answer::Bad => put_error(out, at, number, Fault::BadNumbers),
+        Answer::Other => pair(line, out, at, number),
+    }
+}
+
+fn pair(line: &[u8], out: &mut [u8], at: usize, number: u64) -> usize {
+    match pair_lines::by_word(line, out, at) {
         Answer::Ends(end) => end,
         Answer::Bad => put_error(out, at, number, Fault::BadNumbers),
         Answer::Other => put_error(out, at, number, Fault::NoSuchLine),

@@ -1,6 +1,5 @@
 // The lines of the comparison with the original, answered one after another from standard input to standard output until the input
 // ends: the programs `replay` and `edges` are this on their own lines.
-ghost use Prim.Native.Nat.{_≤_};
 use libc::STDIN_FILENO;
 use libc::STDOUT_FILENO;
 use session::Reply;
@@ -27,13 +26,6 @@ struct Taken {
     is_line: bool,
     fits: bool,
     length: usize,
-}
-
-// n, at most a length.
-fn within(n: usize, length: usize) -> usize
-    ensures { λ r. ⌜ r ≤ length ⌝ }
-{
-    if n <= length { n } else { length }
 }
 
 fn flush(answers: &[u8], waiting: usize) {
@@ -132,7 +124,7 @@ fn respond(line: &[u8], answers: &mut [u8], t: Taken, k: Session) -> Step {
             session: k,
         };
     }
-    let n = within(t.length, line.len());
+    let n = protocol::within(t.length as u64, line.len());
     let waiting = make_room(answers, s.waiting);
     let r = put_answer(&line[0..n], answers, waiting, s.number, t.fits, k);
     s.waiting = r.at;

@@ -1,10 +1,10 @@
--- `answers::product::multiply` meets its contract. Assumes nothing.
+-- `number_lines::product::multiply` meets its contract. Assumes nothing.
 use borrow.Author.Needs.{needs}
 use mathlib.Core.Path.{_≡_, subst}
 use Prim.Native.Nat.{ℕ}
 use Rattle.matrix.specs.Matrix.{Fit}
-use Rattle.answers.proofs.product.multiply.Statement.{statement}
-use Rattle.answers.proofs.product.multiply.Tie as tie
+use Rattle.number_lines.proofs.product.multiply.Statement.{statement}
+use Rattle.number_lines.proofs.product.multiply.Tie as tie
 
 -- the sizes fit at the width that the branch has found
 fit : (c : tie.Start) (w : ℕ) → c .args .m ≡ w → Fit (c .args .n) (c .args .k) w (c .args .a .now) (c .args .b .now) (c .args .into .now)

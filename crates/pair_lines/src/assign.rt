@@ -1,9 +1,9 @@
 // The line that asks for an assignment.
 ghost use Prim.Native.Nat.{_≤_};
-use crate::Answer;
 use crate::mark_lines;
-use crate::within;
 use lapjv::Assigned;
+use protocol::Answer;
+use protocol::within;
 
 // The marks of n rows and columns, if the line is good and they are paired.
 pub struct Pairs {

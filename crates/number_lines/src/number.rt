@@ -1,8 +1,8 @@
 // The lines of a word and its numbers whose answer is a row of numbers. A word is known by its number in `by_word`.
 ghost use Prim.Native.Nat.{_<_};
-use crate::Answer;
 use kalman_filter::DetectBox;
 use object::Corners;
+use protocol::Answer;
 use strack::Direction;
 
 // A row of numbers: whether it is good, how many, and those for which there is room.
@@ -29,14 +29,14 @@ pub fn nth(of: [f32; 16], at: usize, k: usize) -> f32 {
     if i < 16 { of[i] } else { 0.0 }
 }
 
-// Where the numbers of each word from `widen` on stand, and how many it asks for.
-const STARTS: [usize; 17] = [0, 0, 0, 0, 0, 0, 5, 4, 4, 5, 3, 3, 7, 3, 3, 3, 7];
+// Where the numbers of each word stand, and how many it asks for.
+const STARTS: [usize; 10] = [4, 4, 5, 3, 3, 7, 3, 3, 3, 7];
 
-const COUNTS: [usize; 17] = [0, 0, 0, 0, 0, 0, 1, 1, 1, 1, 2, 2, 4, 4, 8, 8, 16];
+const COUNTS: [usize; 10] = [1, 1, 1, 2, 2, 4, 4, 8, 8, 16];
 
 // What a word's numbers come to.
 pub fn read(line: &[u8], word: usize) -> Row
-    requires { ⌜ word < 17 ⌝ }
+    requires { ⌜ word < 10 ⌝ }
 {
     let v = row_at(line, STARTS[word]);
     let of = v.of;
@@ -46,10 +46,10 @@ pub fn read(line: &[u8], word: usize) -> Row
 }
 
 fn result(word: usize, v: [f32; 16]) -> Row {
-    if word < 12 {
+    if word < 5 {
         return up_to_four(1, number(word, nth(v, 0, 0), nth(v, 0, 1)), 0.0, 0.0, 0.0);
     }
-    if word < 16 {
+    if word < 9 {
         return of_boxes(word, corners(v, 0), corners(v, 4));
     }
     let i = inverse::try_inverse(v);
@@ -90,10 +90,10 @@ fn up_to_four(count: usize, a: f32, b: f32, c: f32, d: f32) -> Row {
 
 fn number(word: usize, a: f32, b: f32) -> f32 {
     match word {
-        7 => ieee::sqrt(a),
-        8 => ieee::acos(a),
-        9 => ieee::clamp(a, -1.0, 1.0),
-        10 => ieee::max(a, b),
+        0 => ieee::sqrt(a),
+        1 => ieee::acos(a),
+        2 => ieee::clamp(a, -1.0, 1.0),
+        3 => ieee::max(a, b),
         _ => ieee::min(a, b),
     }
 }
@@ -110,9 +110,9 @@ fn corners(v: [f32; 16], at: usize) -> Corners {
 
 fn of_boxes(word: usize, a: Corners, b: Corners) -> Row {
     match word {
-        12 => measured(strack::convert_bbox_to_z(a)),
-        13 => cornered(strack::convert_x_to_bbox(a.x1, a.y1, a.x2, a.y2)),
-        14 => directed(strack::speed_direction(a, b)),
+        5 => measured(strack::convert_bbox_to_z(a)),
+        6 => cornered(strack::convert_x_to_bbox(a.x1, a.y1, a.x2, a.y2)),
+        7 => directed(strack::speed_direction(a, b)),
         _ => up_to_four(1, pair::overlap(a, b), 0.0, 0.0, 0.0),
     }
 }

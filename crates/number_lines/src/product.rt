@@ -3,8 +3,8 @@ ghost use mathlib.Core.Path.{_≡_};
 ghost use Prim.Native.Nat.{_*_, _<_};
 ghost use lib.ListN.{length};
 ghost use Rattle.matrix.specs.Matrix.{Fit};
-use crate::Answer;
-use crate::size_of;
+use protocol::Answer;
+use protocol::size_of;
 
 // A product, if it is good: the first so many of these numbers.
 pub struct Product {

@@ -1,8 +1,8 @@
--- `answers::mark_lines::mark_of` meets its contract. Assumes nothing.
+-- `pair_lines::mark_lines::mark_of` meets its contract. Assumes nothing.
 use borrow.Author.Needs.{needs}
 use mathlib.Core.Path.{sym, _∙_}
-use Rattle.answers.proofs.mark_lines.mark_of.Statement.{statement}
-use Rattle.answers.proofs.mark_lines.mark_of.Tie as tie
+use Rattle.pair_lines.proofs.mark_lines.mark_of.Statement.{statement}
+use Rattle.pair_lines.proofs.mark_lines.mark_of.Tie as tie
 
 is-free-requires : tie.Need-is-free-requires
 is-free-requires c κs = search needs

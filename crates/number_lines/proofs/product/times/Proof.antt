@@ -1,10 +1,10 @@
--- `answers::product::times` meets its contract: 7 times 7 is below 50. Assumes nothing.
+-- `number_lines::product::times` meets its contract: 7 times 7 is below 50. Assumes nothing.
 use mathlib.Core.Path.{refl}
 use Prim.Native.Nat.{_*_, _≤_}
 use native.Mathlib.Nat.{mul-le-mul}
 use native.Mathlib.Omega.{arith}
-use Rattle.answers.proofs.product.times.Statement.{statement}
-use Rattle.answers.proofs.product.times.Tie as tie
+use Rattle.number_lines.proofs.product.times.Statement.{statement}
+use Rattle.number_lines.proofs.product.times.Tie as tie
 
 mul-result : tie.Need-mul-result
 mul-result c =

@@ -1,8 +1,8 @@
--- `answers::mark_lines::is_taken` meets its contract. Assumes nothing.
+-- `pair_lines::mark_lines::is_taken` meets its contract. Assumes nothing.
 use borrow.Author.Needs.{needs}
 use Prim.Native.Nat.{_-_, _≤_}
-use Rattle.answers.proofs.mark_lines.is_taken.Statement.{statement}
-use Rattle.answers.proofs.mark_lines.is_taken.Tie as tie
+use Rattle.pair_lines.proofs.mark_lines.is_taken.Statement.{statement}
+use Rattle.pair_lines.proofs.mark_lines.is_taken.Tie as tie
 
 abbrev Inv-loop : tie.InvT-loop
 Inv-loop marks count index taken₀ i₀ taken i = i ≤ count

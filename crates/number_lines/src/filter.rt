@@ -1,11 +1,11 @@
 // The lines that ask for a step of the Kalman filter: `predict`, `update` and `replay`, with no box, one and two before the filter.
 // A number's word and its blank are 9 bytes.
 ghost use Prim.Native.Nat.{_≤_};
-use crate::Answer;
 use crate::number;
 use crate::number::nth;
 use kalman_filter::DetectBox;
 use kalman_filter::Filter;
+use protocol::Answer;
 use protocol::Word;
 
 // A filter after its step, if the line is good.
@@ -21,7 +21,7 @@ pub fn read(line: &[u8], boxes: usize) -> Stepped
     let w = gap_of(line, boxes);
     let v = number::row_at(line, w.end);
     let f = filter_at(line, std::num::wrapping_add_usize(w.end, 36 * boxes));
-    let gap = crate::size_of(w, 1000000);
+    let gap = protocol::size_of(w, 1000000);
     let good = gap.good & (1 < gap.n) & v.good & (v.count == 56 + 4 * boxes);
     if good {
         let of = v.of;

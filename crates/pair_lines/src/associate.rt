@@ -2,10 +2,10 @@
 ghost use mathlib.Core.Path.{_≡_};
 ghost use Prim.Native.Nat.{_≤_};
 ghost use lib.ListN.{length};
-use crate::Answer;
 use crate::mark_lines;
-use crate::size_of;
 use matching::Marks;
+use protocol::Answer;
+use protocol::size_of;
 
 // How many objects and tracks, and the objects' marks, if the line is good.
 pub struct Round {

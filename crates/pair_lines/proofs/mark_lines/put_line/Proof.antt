@@ -1,10 +1,10 @@
--- `answers::mark_lines::put_line` meets its contract. Assumes nothing.
+-- `pair_lines::mark_lines::put_line` meets its contract. Assumes nothing.
 use borrow.Author.Needs.{needs}
 use mathlib.Core.Path.{_≡_}
 use Prim.Native.Nat.{_-_}
 use lib.ListN.{length}
-use Rattle.answers.proofs.mark_lines.put_line.Statement.{statement}
-use Rattle.answers.proofs.mark_lines.put_line.Tie as tie
+use Rattle.pair_lines.proofs.mark_lines.put_line.Statement.{statement}
+use Rattle.pair_lines.proofs.mark_lines.put_line.Tie as tie
 
 abbrev Inv-loop : tie.InvT-loop
 Inv-loop out₀ at line marks count n to₀ i₀ out to i = length out ≡ length out₀
