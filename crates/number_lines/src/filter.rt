@@ -9,13 +9,13 @@ use protocol::Answer;
 use protocol::Word;
 
 // A filter after its step, if the line is good.
-pub struct Stepped {
+pub struct Filtered {
     pub good: bool,
     pub filter: Filter,
 }
 
 // A gap is from 2 to a million frames.
-pub fn read(line: &[u8], boxes: usize) -> Stepped
+pub fn read(line: &[u8], boxes: usize) -> Filtered
     requires { ⌜ boxes ≤ 2 ⌝ }
 {
     let w = gap_of(line, boxes);
@@ -26,9 +26,9 @@ pub fn read(line: &[u8], boxes: usize) -> Stepped
     if good {
         let of = v.of;
         let filter = step(f, of, boxes, gap.n);
-        return Stepped { good, filter };
+        return Filtered { good, filter };
     }
-    Stepped { good, filter: f }
+    Filtered { good, filter: f }
 }
 
 // The gap, of `replay` alone, and where the numbers stand.
@@ -83,7 +83,7 @@ fn put_line(out: &mut [u8], at: usize, name: u8, numbers: &[f32]) -> usize {
     protocol::put(out, p, b'\n')
 }
 
-pub fn put(out: &mut [u8], at: usize, s: Stepped) -> Answer {
+pub fn put(out: &mut [u8], at: usize, s: Filtered) -> Answer {
     if !s.good {
         return Answer::Bad;
     }

@@ -8,7 +8,7 @@ use protocol::Answer;
 use protocol::size_of;
 
 // How many objects and tracks, and the objects' marks, if the line is good.
-pub struct Round {
+pub struct Associated {
     pub good: bool,
     pub objects: usize,
     pub tracks: usize,
@@ -16,7 +16,7 @@ pub struct Round {
 }
 
 // `assoc ND NT` and the numbers.
-pub fn read(line: &[u8]) -> Round {
+pub fn read(line: &[u8]) -> Associated {
     let d = protocol::whole_word(line, 5);
     let t = protocol::whole_word(line, d.end);
     let mut numbers = [0.0f32; 1026];
@@ -29,12 +29,12 @@ pub fn read(line: &[u8]) -> Round {
 }
 
 // The round of so many objects and tracks, if so many numbers are as many as they ask for.
-fn round_of(numbers: [f32; 1026], count: usize, objects: usize, tracks: usize) -> Round
+fn round_of(numbers: [f32; 1026], count: usize, objects: usize, tracks: usize) -> Associated
     requires { ⌜ (objects ≤ 64) × (tracks ≤ 64) ⌝ }
 {
     let marks = marks_of(&numbers, objects, tracks);
     let of = marks.at;
-    Round {
+    Associated {
         good: count == 2 + objects * 5 + tracks * 11,
         objects,
         tracks,
@@ -61,7 +61,7 @@ fn marks_of(numbers: &[f32], nd: usize, nt: usize) -> Marks
     )
 }
 
-pub fn put(out: &mut [u8], at: usize, r: Round) -> Answer {
+pub fn put(out: &mut [u8], at: usize, r: Associated) -> Answer {
     if !r.good {
         return Answer::Bad;
     }
