@@ -19,9 +19,9 @@ use Rattle.frame.specs.State.{unitRange, inRange, blank, stateOf, emptyTracker,
 use Rattle.frame.specs.Objects.{detectionAt, objectsOf, firstScore, spareScore}
 use Rattle.frame.specs.Rounds.{firstRound, laterRound, rounds}
 use Rattle.frame.specs.Frame.{early, hasNan, predictedTracks, viewOf, reportOf, isReported, frameOf}
-use Rattle.object.specs.Object.{rectOf}
+use Rattle.object.specs.Object.{xyxyOf, rectOf}
 use Rattle.cases.specs.Cases.{Each, Cases}
 
 pub settled : Each Cases
-unfolding ofBits isNan carrSeat carrMore twoStep two carrPick carrStep carrRuns carrDence assignStep assignFrom assign reduceStep reduceRow reduceColumns otherStep otherMin collectStep collect ccrtDense hopMore hop augment caStep caDense twoPasses lapjv turns walk runs lastFree scanMore searchMore findStep findDense scanHit raiseStep raise scanCol scanStep scanRow scanTurn scanAll scanDense toScan searchTurn searchFrom searchPath findPathDense areaOf sideOf interOf shareOf overlapOf centreOf unitOf stepTo angleOf cosineOf maskOf termOf aboveOf shortcut costsOf assigned keptWhere matchOrLapjv matched rematched someAbove Matching.laterRound angleTerm combined associate reassociate startOf predictOf measureOf boxOf middle directionOf noFilter birthOf areaHeld trackPredict stateBox oldestOf previousOf kPreviousOf headingOf trackBox freezes trackMiss ownRules unitRange inRange blank stateOf emptyTracker trackRules stateRules detectionAt objectsOf firstScore spareScore firstRound laterRound rounds early hasNan predictedTracks viewOf reportOf isReported frameOf rectOf
+unfolding ofBits isNan carrSeat carrMore twoStep two carrPick carrStep carrRuns carrDence assignStep assignFrom assign reduceStep reduceRow reduceColumns otherStep otherMin collectStep collect ccrtDense hopMore hop augment caStep caDense twoPasses lapjv turns walk runs lastFree scanMore searchMore findStep findDense scanHit raiseStep raise scanCol scanStep scanRow scanTurn scanAll scanDense toScan searchTurn searchFrom searchPath findPathDense areaOf sideOf interOf shareOf overlapOf centreOf unitOf stepTo angleOf cosineOf maskOf termOf aboveOf shortcut costsOf assigned keptWhere matchOrLapjv matched rematched someAbove Matching.laterRound angleTerm combined associate reassociate startOf predictOf measureOf boxOf middle directionOf noFilter birthOf areaHeld trackPredict stateBox oldestOf previousOf kPreviousOf headingOf trackBox freezes trackMiss ownRules unitRange inRange blank stateOf emptyTracker trackRules stateRules xyxyOf detectionAt objectsOf firstScore spareScore firstRound laterRound rounds early hasNan predictedTracks viewOf reportOf isReported frameOf rectOf
 settled = (refl, (refl, (refl, (refl, (refl, (refl, (refl, (refl, (refl, (refl, (refl, (refl, (refl, (refl, (refl, (refl, (refl, (refl, (refl, tt)))))))))))))))))))

@@ -2,11 +2,12 @@
 use mathlib.Core.Bool.{Bool, not, _&&_}
 use mathlib.Core.List.{List}
 use Prim.Native.Nat.{ℕ, _+_, _*_, _/_}
-use lib.Ieee.{Float, binary32, nan, add, lt}
+use lib.Ieee.{Float, nan, lt}
 use lib.ListN.{length, getD}
 use Rattle.ieee.specs.Ops.{f32}
 use Rattle.lists.specs.Lists.{tab, keep}
 use Rattle.object.specs.declared.Detection.{Detection}
+use Rattle.object.specs.Object.{xyxyOf}
 use Rattle.frame.specs.declared.Settings.{Settings}
 
 -- a detection with its place in the frame
@@ -14,17 +15,21 @@ pub record Obj : Type 0 where
   pub place : ℕ
   pub det : Detection
 
--- x, y, width, height and score stand in cells 5p to 5p + 4 of the input; the corners are x, y, x + width, y + height
+-- "An object in is x, y, width, height, score": cells 5p to 5p + 4 of the input. The tracker takes its rectangle's corners and its score.
 unfoldable pub detectionAt : List Float → ℕ → Detection
-unfolding add
+unfolding xyxyOf
 detectionAt input p =
-    let x = getD input (5 * p) nan in
-    let y = getD input (5 * p + 1) nan in
+    let corner = xyxyOf (record {
+      x = getD input (5 * p) nan;
+      y = getD input (5 * p + 1) nan;
+      width = getD input (5 * p + 2) nan;
+      height = getD input (5 * p + 3) nan;
+    }) in
     record {
-      x1 = x;
-      y1 = y;
-      x2 = add binary32 x (getD input (5 * p + 2) nan);
-      y2 = add binary32 y (getD input (5 * p + 3) nan);
+      x1 = getD corner 0 nan;
+      y1 = getD corner 1 nan;
+      x2 = getD corner 2 nan;
+      y2 = getD corner 3 nan;
       score = getD input (5 * p + 4) nan;
     }
 

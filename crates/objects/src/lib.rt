@@ -1,6 +1,8 @@
 // The objects of a frame, told apart by their scores: document 01, item 6.
 use frame::Settings;
 use object::Detection;
+use object::Object;
+use object::Rect;
 ghost use mathlib.Core.Path.{_≡_};
 ghost use Prim.Native.Nat.{_+_, _*_, _≤_, _<_};
 ghost use lib.Ieee.{nan};
@@ -22,14 +24,15 @@ fn detection(input: &[f32], p: usize) -> Detection
     ensures { λ r. ⌜ r ≡ detectionAt (now (input .entry)) p ⌝ }
 {
     let at = 5 * p;
-    let x = input[at];
-    let y = input[at + 1];
+    let rect = Rect::new(input[at], input[at + 1], input[at + 2], input[at + 3]);
+    let o = Object::new(rect, input[at + 4]);
+    let r = o.get_rect().get_xyxy();
     Detection {
-        x1: x,
-        y1: y,
-        x2: x + input[at + 2],
-        y2: y + input[at + 3],
-        score: input[at + 4],
+        x1: r[0],
+        y1: r[1],
+        x2: r[2],
+        y2: r[3],
+        score: o.get_prob(),
     }
 }
 

@@ -1,6 +1,5 @@
 -- `objects::detection` meets its contract. Assumes nothing.
 use borrow.Author.Needs.{needs}
-use mathlib.Core.Path.{refl}
 use Rattle.frame.specs.Objects.{detectionAt}
 use Rattle.objects.proofs.detection.Statement.{statement}
 use Rattle.objects.proofs.detection.Tie as tie
@@ -8,69 +7,105 @@ use Rattle.objects.proofs.detection.Tie as tie
 mul-at : tie.Need-mul-at
 mul-at c = search needs
 
-mul-x : tie.Need-mul-x
-mul-x c = search needs
+mul-new : tie.Need-mul-new
+mul-new c = search needs
 
-shared-slice-read-x : tie.Need-shared-slice-read-x
-shared-slice-read-x c = search needs
+shared-slice-read-new : tie.Need-shared-slice-read-new
+shared-slice-read-new c = search needs
 
-add-y : tie.Need-add-y
-add-y c = search needs
+add-new : tie.Need-add-new
+add-new c = search needs
 
-mul-y : tie.Need-mul-y
-mul-y c = search needs
+mul-new-2 : tie.Need-mul-new-2
+mul-new-2 c = search needs
 
-shared-slice-read-y : tie.Need-shared-slice-read-y
-shared-slice-read-y c = search needs
+shared-slice-read-new-2 : tie.Need-shared-slice-read-new-2
+shared-slice-read-new-2 c = search needs
 
-add-t6 : tie.Need-add-t6
-add-t6 c = search needs
+add-new-2 : tie.Need-add-new-2
+add-new-2 c = search needs
 
-mul-t9 : tie.Need-mul-t9
-mul-t9 c = search needs
+mul-new-3 : tie.Need-mul-new-3
+mul-new-3 c = search needs
 
-shared-slice-read-t8 : tie.Need-shared-slice-read-t8
-shared-slice-read-t8 c = search needs
+shared-slice-read-new-3 : tie.Need-shared-slice-read-new-3
+shared-slice-read-new-3 c = search needs
 
-add-t13 : tie.Need-add-t13
-add-t13 c = search needs
+add-new-3 : tie.Need-add-new-3
+add-new-3 c = search needs
 
-mul-t14 : tie.Need-mul-t14
-mul-t14 c = search needs
+mul-new-4 : tie.Need-mul-new-4
+mul-new-4 c = search needs
 
-shared-slice-read-t16 : tie.Need-shared-slice-read-t16
-shared-slice-read-t16 c = search needs
+shared-slice-read-new-4 : tie.Need-shared-slice-read-new-4
+shared-slice-read-new-4 c = search needs
 
-add-t18 : tie.Need-add-t18
-add-t18 c = search needs
+new-requires : tie.Need-new-requires
+new-requires c κs = search needs
 
-mul-t19 : tie.Need-mul-t19
-mul-t19 c = search needs
+add-new-4 : tie.Need-add-new-4
+add-new-4 c = search needs
 
-shared-slice-read-t21 : tie.Need-shared-slice-read-t21
-shared-slice-read-t21 c = search needs
+mul-new-5 : tie.Need-mul-new-5
+mul-new-5 c = search needs
+
+shared-slice-read-new-5 : tie.Need-shared-slice-read-new-5
+shared-slice-read-new-5 c = search needs
+
+new-requires-2 : tie.Need-new-requires-2
+new-requires-2 c κs = search needs
+
+get-rect-requires : tie.Need-get-rect-requires
+get-rect-requires c κs = search needs
+
+get-xyxy-requires : tie.Need-get-xyxy-requires
+get-xyxy-requires c κs = search needs
+
+array-read-t9 : tie.Need-array-read-t9
+array-read-t9 c = search needs
+
+array-read-t13 : tie.Need-array-read-t13
+array-read-t13 c = search needs
+
+array-read-t17 : tie.Need-array-read-t17
+array-read-t17 c = search needs
+
+array-read-t21 : tie.Need-array-read-t21
+array-read-t21 c = search needs
+
+get-prob-requires : tie.Need-get-prob-requires
+get-prob-requires c κs = search needs
 
 returns : tie.Need-returns
 unfolding detectionAt
-returns c = refl
+returns c = rw (c .get-prob .ensures, c .before .get-xyxy .ensures, c .before .before .get-rect .ensures, c .before .before .before .new2 .ensures, c .before .before .before .before .before .new .ensures)
 
 pub detection-spec : {M : Type 1} → statement M
 detection-spec =
     tie.close
     (tie.spec
     mul-at
-    mul-x
-    shared-slice-read-x
-    add-y
-    mul-y
-    shared-slice-read-y
-    add-t6
-    mul-t9
-    shared-slice-read-t8
-    add-t13
-    mul-t14
-    shared-slice-read-t16
-    add-t18
-    mul-t19
-    shared-slice-read-t21
+    mul-new
+    shared-slice-read-new
+    add-new
+    mul-new-2
+    shared-slice-read-new-2
+    add-new-2
+    mul-new-3
+    shared-slice-read-new-3
+    add-new-3
+    mul-new-4
+    shared-slice-read-new-4
+    new-requires
+    add-new-4
+    mul-new-5
+    shared-slice-read-new-5
+    new-requires-2
+    get-rect-requires
+    get-xyxy-requires
+    array-read-t9
+    array-read-t13
+    array-read-t17
+    array-read-t21
+    get-prob-requires
     returns)
