@@ -1,8 +1,8 @@
 -- The arc cosine by Abramowitz and Stegun 4.4.46, in f32: document 01, "Stand-ins". Definitions only.
 use mathlib.Core.Bool.{Bool, true, false, cond, _&&_}
 use mathlib.Core.List.{List, [], _∷_}
-use Prim.Native.Nat.{ℕ, _+_, _-_, _*_, _%_, _^_}
-use lib.Dec.{ltb}
+use Prim.Native.Nat.{ℕ, _+_, _-_, _*_, _/_, _%_, _^_}
+use lib.Dec.{eqb, ltb}
 use lib.Ieee.{Float, binary32, low, add, sub, mul, neg, lt, round, toBits, top}
 use Rattle.ieee.specs.Ops.{f32, π}
 use Rattle.ieee.specs.Patterns.{patternUnits}
@@ -30,7 +30,7 @@ unfoldable pub nearestTo : Decimal → Float
 unfolding round
 nearestTo d = round binary32 (d .negative) (d .digits) (10 ^ 10)
 
--- ---- that these are the nearest, by distances
+-- ---- that these are the nearest, by distances, with the decimals' signs
 
 -- how far the value of the pattern b lies from n / 10 ^ 10: both as whole numbers, times 2 ^ 149 * 10 ^ 10
 abbrev pub distance : ℕ → ℕ → ℕ
@@ -40,8 +40,9 @@ distance n b = let v = patternUnits binary32 b * 10 ^ 10 in let d = n * 2 ^ low 
 abbrev pub nearestPattern : ℕ → ℕ → Bool
 nearestPattern n b = ltb (distance n b) (distance n (b - 1)) && ltb (distance n b) (distance n (b + 1))
 
+-- a coefficient has its decimal's sign, in its highest bit, and the nearest pattern below that
 abbrev pub isNearest : Decimal → Bool
-isNearest d = nearestPattern (d .digits) (toBits binary32 (nearestTo d) % top binary32)
+isNearest d = let b = toBits binary32 (nearestTo d) in eqb (b / top binary32) (cond (d .negative) 1 0) && nearestPattern (d .digits) (b % top binary32)
 
 -- ---- the function
 

@@ -164,7 +164,7 @@ fn wide_pattern(b: u64) -> u64
     sign + (p + 747) * 0x10_0000_0000_0000 + m * 0x2000_0000
 }
 
-// The same value as an f64, worked out from the bits.
+// The same value as an f64, worked out from the bits. One `Float` stands for both formats, so `r ≡ x` says: the same value.
 pub fn widen(x: f32) -> f64
     ensures { λ r. ⌜ r ≡ x ⌝ }
 {
@@ -174,7 +174,7 @@ pub fn widen(x: f32) -> f64
     f64::from_bits(wide_pattern(f32::to_bits(x) as u64))
 }
 
-// The polynomial of Abramowitz and Stegun 4.4.46, from its last coefficient on; and that its coefficients are the nearest to the decimals.
+// The polynomial of Abramowitz and Stegun 4.4.46, from its last coefficient on; and that its coefficients are the nearest to the decimals and have their signs.
 fn acos_polynomial(c: f32) -> f32
     ensures { λ r. ⌜ r ≡ horner c coefficients ⌝ }
     ensures nearest { λ r. ⌜ T (every isNearest coefficients) ⌝ }

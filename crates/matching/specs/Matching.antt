@@ -45,7 +45,7 @@ passing p (suc n) = pick (p n) (pos n) (passing p n)
 abbrev pub larger : ℕ → ℕ → ℕ
 larger a b = pick (ltb a b) b a
 
--- the negated numbers, filled to a square with 1e5
+-- the negated numbers, widened to f64 (the same value, so nothing is written for it), filled to a square with 1e5
 unfoldable pub costsOf : ℕ → ℕ → Matrix → List Float
 unfolding neg ofBits
 costsOf nd nt m =
