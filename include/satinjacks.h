@@ -9,9 +9,14 @@
  * as you like; calls on different trackers may run at the same time. A frame
  * needs up to 149 KiB of stack, making a tracker up to 94 KiB.
  *
- * Where a pointer is followed by a length, the length counts elements, and
- * the pointer is to at least as many, aligned. An empty slice still needs a
- * pointer that is not null. image, boxes, ids and input must not overlap.
+ * Every pointer is aligned for its type and not null, also that of an empty
+ * slice. Where it is followed by a length, the length counts elements, and the
+ * pointer is to at least as many. What one call is given must not overlap:
+ * image (or wide, floats and words), input, boxes and ids of a frame; cost, x
+ * and y of an assignment.
+ *
+ * That a refused call writes nothing is proved of the values, of which all
+ * NaNs are one; that a NaN keeps its bytes too is what tests/boundary shows.
  *
  * satinjacks_new, satinjacks_with_settings and satinjacks_update stand here:
  * they lend the tracker's three lists to the calls that the library exports.
@@ -126,8 +131,7 @@ typedef struct {
 
 /*
  * What the library exports: the calls below on a tracker's three lists, 66
- * numbers wide, 10,435 floats and 965 words. They need not stand together,
- * but must not overlap.
+ * numbers wide, 10,435 floats and 965 words, which need not stand together.
  */
 uint64_t satinjacks_new_lists(uint64_t *wide, float *floats, uint32_t *words, float det_thresh);
 uint64_t satinjacks_with_settings_lists(uint64_t *wide, float *floats, uint32_t *words, SatinjacksSettings settings);

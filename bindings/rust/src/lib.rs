@@ -150,13 +150,14 @@ impl Tracker {
         Self { image, reported: Vec::with_capacity(ROOM) }
     }
 
-    /// One frame: the tracks reported, newest first. A refusal leaves the state as it was.
+    /// One frame: the tracks reported, newest first. A refusal leaves the state as it was: proved of the values, of which
+    /// all NaNs are one; that a NaN keeps its bytes too is what tests/boundary of the repository shows.
     pub fn update(&mut self, detections: &[Detection]) -> Result<&[Track], Refusal> {
         let mut boxes = [0f32; 4 * ROOM];
         let mut ids = [0u64; ROOM];
         let (wide, floats, words) = self.image.lists();
         // SAFETY: a Detection is five f32 without padding, so the slice is five times as many; a slice's pointer is
-        // never null; the image's lists, boxes and ids are exclusive, and the lengths are theirs.
+        // aligned and never null; the image's lists, boxes and ids are exclusive, and the lengths are theirs.
         let reply = unsafe {
             satinjacks_update_lists(
                 wide,
@@ -213,7 +214,8 @@ impl Tracker {
 /// # Ok::<(), satinjacks::Refusal>(())
 /// ```
 pub fn assign(n: usize, costs: &[f64], rows: &mut [i64], columns: &mut [i64]) -> Result<(), Refusal> {
-    // SAFETY: each pointer is a slice's own, with its length.
+    // SAFETY: each pointer is a slice's own, with its length; a slice's pointer is aligned and never null, and the two that
+    // are written are exclusive, so nothing overlaps.
     let number = unsafe {
         satinjacks_assign(
             n,
