@@ -8,6 +8,7 @@ use lib.Ieee.{Float}
 use lib.IntN.{ℤ}
 use lib.ListN.{length}
 use Rattle.lists.specs.Lists.{pick}
+use Rattle.object.specs.declared.Refusal.the-variants.{BadMatrix}
 use Rattle.object.specs.Refusal as refusal
 use Rattle.lapjv_walk.specs.Marks.{index, markAt}
 use Rattle.lapjv_walk.specs.Ops.{floats}
@@ -32,7 +33,7 @@ pub record Ranged (n : ℕ) (x : List ℤ) : Type 0 where
 
 -- the answer r to a call, with both lists before (x₀, y₀) and after (x, y)
 pub record Answer (n : ℕ) (cost : List Float) (x₀ y₀ : List ℤ) (r : Assigned) (x y : List ℤ) : Type 0 where
-  pub number : numberOf r ≡ pick (fits n (length cost) (length x₀) (length y₀)) 0 8
+  pub number : numberOf r ≡ pick (fits n (length cost) (length x₀) (length y₀)) 0 (refusal.numberOf BadMatrix)
   pub rows : x ≡ pick (fits n (length cost) (length x₀) (length y₀)) (lapjv floats n cost .x) x₀
   pub columns : y ≡ pick (fits n (length cost) (length x₀) (length y₀)) (lapjv floats n cost .y) y₀
   pub one-to-one : fits n (length cost) (length x₀) (length y₀) ≡ true → OneToOne n x y
