@@ -1,18 +1,16 @@
--- What a frame promises beside its definition: reported ids are live and fall, and live ids are old ones followed by the newly issued. Assumes nothing.
+-- What a frame promises beside its definition: of reported and live ids, of what is issued and counted, and of the state rules. Assumes nothing.
 use mathlib.Core.Path.{_≡_, refl, sym, ap, subst, _∙_}
 use mathlib.Core.Bool.{Bool, true, false, _&&_, _||_}
 use mathlib.Core.Option.{Option, none, some}
 use mathlib.Core.List.{List, [], _∷_, _++_, map, append-nil, List·Memᴰ, List·Memᴰ·head, List·Memᴰ·tail}
-use Prim.Native.Nat.{ℕ, zero, suc, _+_, _-_, _≤_, _<_}
+use Prim.Native.Nat.{ℕ, suc, _+_, _-_, _≤_, _<_}
 use native.Mathlib.Omega.{arith}
-use lib.Dec.{leb, ltb, eqb}
-use lib.ListN.{length, replicate}
-use lib.Seq.{take-append-seam}
-use borrow.Author.Tests.{leb-true, ltb-true, eqb-true, le-leb}
+use lib.Dec.{leb, eqb}
+use lib.ListN.{length, length-map}
+use borrow.Author.Tests.{ltb-false, eqb-true, le-leb}
 use Rattle.lists.specs.Lists.{pick, put, keep, upFrom, All}
-use Rattle.lists.proofs.All.{all-append, map-append, map-map}
+use Rattle.lists.proofs.All.{all-append, map-append}
 use Rattle.lists.proofs.Keep.{keep-append}
-use Rattle.lapjv_walk.proofs.Cases.{never}
 use Rattle.object.specs.declared.Refusal.{Refusal}
 use Rattle.object.specs.declared.Refusal.the-variants.{UnsoundState, FullTable}
 use Rattle.strack.specs.declared.Track.{Track}
@@ -20,98 +18,14 @@ use Rattle.strack.specs.Track.{birthOf}
 use Rattle.frame.specs.declared.Settings.{Settings}
 use Rattle.frame.specs.declared.Tracked.{Tracked}
 use Rattle.frame.specs.declared.Tracker.{Tracker}
-use Rattle.frame.specs.State.{blank, live, stateOf, rising, stateRules}
+use Rattle.frame.specs.State.{live, stateOf, stateRules}
 use Rattle.frame.specs.Objects.{Obj}
-use Rattle.frame.specs.Rounds.{Slot, Work}
-use Rattle.frame.specs.Frame.{Call, Report, refused, early, predictTracked, unbroken, predictedTracks, roundsOver, giveAll, births, reportOf, isReported, snocIf, reportsOf, isYoung, isFull, settled, frameAt, frameOf}
-use Rattle.frame.proofs.Rules.{sound}
-use Rattle.frame.specs.Contract.{liveIds, Falling, Subsequence, none, left, taken, Promises}
-
-abbrev idsOf : List Tracked → List ℕ
-idsOf es = map (λ (e : Tracked). e .id) es
-
--- ---- subsequences
-
-sub-none : (l : List ℕ) → Subsequence [] l
-sub-none [] = none
-sub-none (a ∷ l) = left a (sub-none l)
-
-sub-refl : (l : List ℕ) → Subsequence l l
-sub-refl [] = none
-sub-refl (a ∷ l) = taken a (sub-refl l)
-
-sub-trans : {j k l : List ℕ} → Subsequence j k → Subsequence k l → Subsequence j l
-sub-trans s none = s
-sub-trans s (left a t) = left a (sub-trans s t)
-sub-trans (left a s) (taken b t) = left a (sub-trans s t)
-sub-trans (taken a s) (taken b t) = taken a (sub-trans s t)
-
-sub-all : (P : ℕ → Type 0) {k l : List ℕ} → Subsequence k l → All P l → All P k
-sub-all P none h = tt
-sub-all P (left a s) h = sub-all P s (h .1)
-sub-all P (taken a s) h = (h .0, sub-all P s (h .1))
-
-sub-keep : (p : Tracked → Bool) (es : List Tracked) → Subsequence (idsOf (keep p es)) (idsOf es)
-sub-keep p [] = none
-sub-keep p (e ∷ es) = go (p e) (sub-keep p es)
-  where
-    go : (b : Bool) → Subsequence (idsOf (keep p es)) (idsOf es) → Subsequence (idsOf (put b e (keep p es))) (idsOf (e ∷ es))
-    go true s = taken (e .id) s
-    go false s = left (e .id) s
-
-sub-given : (dt : ℕ) (es : List Tracked) (ss : List Slot) → Subsequence (idsOf (giveAll dt es ss)) (idsOf es)
-sub-given dt [] ss = none
-sub-given dt (e ∷ es) [] = sub-none (idsOf (e ∷ es))
-sub-given dt (e ∷ es) (s ∷ ss) = taken (e .id) (sub-given dt es ss)
-
--- ---- strictly rising ids
-
-abbrev Climbing : List ℕ → Type 0
-Climbing [] = Unit {0}
-Climbing (a ∷ l) = All (λ b. a < b) l × Climbing l
-
-sub-climbing : {k l : List ℕ} → Subsequence k l → Climbing l → Climbing k
-sub-climbing none h = tt
-sub-climbing (left a s) h = sub-climbing s (h .1)
-sub-climbing (taken a s) h = (sub-all (λ b. a < b) s (h .0), sub-climbing s (h .1))
-
-all-imp : {P Q : ℕ → Type 0} → ((a : ℕ) → P a → Q a) → (l : List ℕ) → All P l → All Q l
-all-imp f [] h = tt
-all-imp f (a ∷ l) h = (f a (h .0), all-imp f l (h .1))
-
-climbing-append : (m : ℕ) (k l : List ℕ) → Climbing k → All (λ a. a < m) k → Climbing l → All (λ b. m ≤ b) l → Climbing (k ++ l)
-climbing-append m [] l c h d g = d
-climbing-append m (a ∷ k) l c h d g = (all-append (λ b. a < b) k l (c .0) (all-imp (λ b u. omega (arith, h .0, u)) l g), climbing-append m k l (c .1) (h .1) d g)
-
-from-on : (i n : ℕ) → All (λ b. i ≤ b) (upFrom i n)
-from-on i zero = tt
-from-on i (suc n) = (omega arith, all-imp (λ b u. omega (arith, u)) (upFrom (suc i) n) (from-on (suc i) n))
-
-from-climbing : (i n : ℕ) → Climbing (upFrom i n)
-from-climbing i zero = tt
-from-climbing i (suc n) = (all-imp (λ b u. omega (arith, u)) (upFrom (suc i) n) (from-on (suc i) n), from-climbing (suc i) n)
-
-pub record Rises (from below : ℕ) (l : List ℕ) : Type 0 where
-  pub above : All (λ b. from ≤ b) l
-  pub under : All (λ b. b < below) l
-  pub climbs : Climbing l
-
-rises : (from below : ℕ) (es : List Tracked) → rising from below es ≡ true → Rises from below (idsOf es)
-rises from below [] h = record { above = tt; under = tt; climbs = tt }
-rises from below (e ∷ es) h = go (leb from (e .id)) refl (ltb (e .id) below) refl h (rises (suc (e .id)) below es)
-  where
-    go : (a : Bool) → leb from (e .id) ≡ a → (b : Bool) → ltb (e .id) below ≡ b → (a && b && rising (suc (e .id)) below es) ≡ true
-        → (rising (suc (e .id)) below es ≡ true → Rises (suc (e .id)) below (idsOf es)) → Rises from below (idsOf (e ∷ es))
-    go true p true q r ih =
-        let i : from ≤ e .id = leb-true from (e .id) p in
-        let k : Rises (suc (e .id)) below (idsOf es) = ih r in
-        record {
-          above = (i, all-imp (λ b u. omega (arith, i, u)) (idsOf es) (k .above));
-          under = (ltb-true (e .id) below q, k .under);
-          climbs = (all-imp (λ b u. omega (arith, u)) (idsOf es) (k .above), k .climbs);
-        }
-    go true p false q r ih = never r
-    go false p b q r ih = never r
+use Rattle.frame.specs.Rounds.{Work}
+use Rattle.frame.specs.Frame.{Call, Report, refused, reports, early, predictedTracks, roundsOver, births, reportOf, isReported, snocIf, reportsOf, isYoung, isFull, settled, frameAt, frameOf}
+use Rattle.frame.specs.Contract.{liveIds, Falling, Promises}
+use Rattle.frame.proofs.Rules.{clear}
+use Rattle.frame.proofs.Rising.{idsOf, sub-refl, sub-trans, sub-keep, Climbing, all-imp, born-ids, given, withBorn, lineal, with-born-rise}
+use Rattle.frame.proofs.StaysSound.{live-of, left-few, sound-after}
 
 -- ---- reports
 
@@ -172,45 +86,48 @@ module _ (s : Settings) (f : ℕ) where
       let older : Falling (shown es) = reported-fall es (c .1) in
       shown-cons e es Falling (λ _. falling-snoc (shown es) (suc (e .id)) older (above (e .id) es (c .0))) older
 
--- ---- births
-
-born-ids : (i : ℕ) (os : List Obj) → idsOf (births i os) ≡ upFrom i (length os)
-born-ids i [] = refl
-born-ids i (o ∷ os) = ap (λ l. i ∷ l) (born-ids (suc i) os)
+-- ---- the frame
 
 born-young : (s : Settings) (i : ℕ) (os : List Obj) → keep (isYoung s) (births i os) ≡ births i os
 unfolding birthOf
 born-young s i [] = refl
 born-young s i (o ∷ os) = rw (le-leb 0 (s .«max_age») (omega arith), born-young s (suc i) os)
 
--- ---- the frame
-
-live-of : (s : Settings) (f i : ℕ) (es : List Tracked) → live (stateOf s f i es) ≡ es
-unfolding stateOf
-live-of s f i es = take-append-seam es (replicate (64 - length es) blank)
-
-predicted-ids : (es : List Tracked) → idsOf (map predictTracked es) ≡ idsOf es
-predicted-ids es = map-map (λ (e : Tracked). e .id) predictTracked es
-
-sub-predicted : (es : List Tracked) → Subsequence (idsOf (predictedTracks es)) (idsOf es)
-unfolding predictedTracks
-sub-predicted es = subst (λ (l : List ℕ). Subsequence (idsOf (keep unbroken (map predictTracked es))) l) (predicted-ids es) (sub-keep unbroken (map predictTracked es))
+refused-reports : {A : Type 0} (r : Refusal) (rs : List Report) → refused r ≡ reports rs → A
+refused-reports r rs e = absurd (let z : _≡_ {A = ℕ} 0 1 = cc in omega arith)
 
 -- a refusal hands the state back
 kept-all : (t : Tracker) (r : Refusal) → Promises t (refused r) t
-kept-all t r = record { reported-live = tt; reported-fall = tt; lineage = (liveIds t, sub-refl (liveIds t), same) }
+kept-all t r = record {
+  reported-live = tt;
+  reported-fall = tt;
+  lineage = (liveIds t, sub-refl (liveIds t), same);
+  issued-grows = omega arith;
+  counted = λ rs e. refused-reports r rs e;
+  kept = λ q e. refl;
+  room = λ rs e. refused-reports r rs e;
+  sound = λ h. h;
+}
   where
     same : liveIds t ≡ liveIds t ++ upFrom (t .issued) (t .issued - t .issued)
     same = let z : t .issued - t .issued ≡ 0 = omega arith in rw (z, append-nil (liveIds t))
 
-module _ (t : Tracker) (fine : stateRules t ≡ true) where
-  settled-promises : (w : Work) (full : Bool) → Promises t (settled t (predictedTracks (live t)) w full .reply) (settled t (predictedTracks (live t)) w full .next)
+module _ (t : Tracker) (fine : stateRules t ≡ true) (going : t .frames < 1000000) where
+  abbrev es : List Tracked
+  es = predictedTracks (live t)
+
+  settled-promises : (w : Work) (full : Bool) → isFull es w ≡ full → Promises t (settled t es w full .reply) (settled t es w full .next)
   unfolding stateOf
-  settled-promises w true = kept-all t FullTable
-  settled-promises w false = record {
+  settled-promises w true h = kept-all t FullTable
+  settled-promises w false h = record {
     reported-live = subst (λ (l : List Tracked). All (LiveIn s f (idsOf l)) (shown s f all)) (sym (live-of s f n (keep (isYoung s) all))) (reported-live s f all);
-    reported-fall = reported-fall s f all climbs;
-    lineage = (idsOf (keep (isYoung s) given), sub-trans (sub-keep (isYoung s) given) lineal, ids);
+    reported-fall = reported-fall s f all (with-born-rise t w fine .climbs);
+    lineage = (idsOf (keep (isYoung s) (given t w)), sub-trans (sub-keep (isYoung s) (given t w)) (lineal t w), ids);
+    issued-grows = omega arith;
+    counted = λ rs e. omega arith;
+    kept = λ r e. refused-reports r (reportsOf s f all) (sym e);
+    room = λ rs e. omega (arith, length-map (live (stateOf s f n (keep (isYoung s) all))) (λ (x : Tracked). x .id), ap length (live-of s f n (keep (isYoung s) all)), left-few t w fits);
+    sound = λ _. sound-after t w fits fine going;
   }
     where
       s : Settings
@@ -222,44 +139,29 @@ module _ (t : Tracker) (fine : stateRules t ≡ true) where
       n : ℕ
       n = t .issued + length (w .left)
 
-      es : List Tracked
-      es = predictedTracks (live t)
-
-      given : List Tracked
-      given = giveAll (s .«delta_t») es (w .slots)
-
-      born : List Tracked
-      born = births (t .issued) (w .left)
-
       all : List Tracked
-      all = given ++ born
+      all = withBorn t w
 
-      old : Rises 0 (t .issued) (liveIds t)
-      old = rises 0 (t .issued) (live t) (sound t fine .ids)
+      fits : length es + length (w .left) ≤ 64
+      fits = ltb-false 64 (length es + length (w .left)) h
 
-      lineal : Subsequence (idsOf given) (liveIds t)
-      lineal = sub-trans (sub-given (s .«delta_t») es (w .slots)) (sub-predicted (live t))
-
-      climbs : Climbing (idsOf all)
-      climbs =
-          subst Climbing (sym (map-append (λ (e : Tracked). e .id) given born))
-          (climbing-append (t .issued) (idsOf given) (idsOf born) (sub-climbing lineal (old .climbs)) (sub-all (λ a. a < t .issued) lineal (old .under))
-          (subst Climbing (sym (born-ids (t .issued) (w .left))) (from-climbing (t .issued) (length (w .left)))) (subst (All (λ b. t .issued ≤ b)) (sym (born-ids (t .issued) (w .left))) (from-on (t .issued) (length (w .left)))))
-
-      ids : liveIds (stateOf s f n (keep (isYoung s) all)) ≡ idsOf (keep (isYoung s) given) ++ upFrom (t .issued) (n - t .issued)
+      ids : liveIds (stateOf s f n (keep (isYoung s) all)) ≡ idsOf (keep (isYoung s) (given t w)) ++ upFrom (t .issued) (n - t .issued)
       ids =
           let z : n - t .issued ≡ length (w .left) = omega arith in
-          ap idsOf (live-of s f n (keep (isYoung s) all)) ∙ ap idsOf (keep-append (isYoung s) given born) ∙ map-append (λ (e : Tracked). e .id) (keep (isYoung s) given) (keep (isYoung s) born)
-          ∙ ap (λ (l : List ℕ). idsOf (keep (isYoung s) given) ++ l) (ap idsOf (born-young s (t .issued) (w .left)) ∙ born-ids (t .issued) (w .left) ∙ ap (upFrom (t .issued)) (sym z))
+          let born = births (t .issued) (w .left) in
+          ap idsOf (live-of s f n (keep (isYoung s) all)) ∙ ap idsOf (keep-append (isYoung s) (given t w) born) ∙ map-append (λ (e : Tracked). e .id) (keep (isYoung s) (given t w)) (keep (isYoung s) born)
+          ∙ ap (λ (l : List ℕ). idsOf (keep (isYoung s) (given t w)) ++ l) (ap idsOf (born-young s (t .issued) (w .left)) ∙ born-ids (t .issued) (w .left) ∙ ap (upFrom (t .issued)) (sym z))
 
 pub promised : (t : Tracker) (c : Call) → Promises t (frameOf t c .reply) (frameOf t c .next)
 unfolding frameOf
 promised t c = go (stateRules t) refl
   where
-    at : stateRules t ≡ true → (r : Option Refusal) → Promises t (frameAt t c r .reply) (frameAt t c r .next)
-    at h (some r) = kept-all t r
-    at h none = settled-promises t h (roundsOver (t .settings) (predictedTracks (live t)) (c .input)) (isFull (predictedTracks (live t)) (roundsOver (t .settings) (predictedTracks (live t)) (c .input)))
+    at : stateRules t ≡ true → (r : Option Refusal) → early (t .frames) c ≡ r → Promises t (frameAt t c r .reply) (frameAt t c r .next)
+    at h (some r) e = kept-all t r
+    at h none e =
+        let w : Work = roundsOver (t .settings) (predictedTracks (live t)) (c .input) in
+        settled-promises t h (clear (t .frames) c e .not-over) w (isFull (predictedTracks (live t)) w) refl
 
     go : (b : Bool) → stateRules t ≡ b → Promises t (frameAt t c (pick b (early (t .frames) c) (some UnsoundState)) .reply) (frameAt t c (pick b (early (t .frames) c) (some UnsoundState)) .next)
-    go true h = at h (early (t .frames) c)
+    go true h = at h (early (t .frames) c) refl
     go false h = kept-all t UnsoundState

@@ -13,10 +13,9 @@ use Rattle.frame.specs.declared.Tracker.{Tracker}
 use Rattle.frame.specs.declared.Answer.{Answer}
 use Rattle.frame.specs.Frame as frame
 use Rattle.frame.specs.Frame.{Call, Out, refused, reports, frameOf, boxesAfter, idsAfter}
-use Rattle.frame.specs.Contract.{outcomeOf, reportsIn, callOf, Framed}
+use Rattle.frame.specs.Contract.{toldOf, numberIn, reportsIn, callOf, Framed}
 use Rattle.image.specs.declared.TrackerImage.{TrackerImage}
 use Rattle.image.specs.Image.{freezeTracker, thawTracker, meant}
-use Rattle.making.specs.Making.{toldOf}
 use Rattle.host.specs.declared.Reply.{Reply}
 use Rattle.host.specs.Host.{imageAfter, frameBy, frameOn, replyOf, Hosted}
 
@@ -32,16 +31,16 @@ nonzero FullTable e = omega (arith, e)
 nonzero BadMatrix e = omega (arith, e)
 
 -- a number other than 0 is a refusal's
-kept-image : (i : TrackerImage) (r : frame.Reply) (next : Tracker) → (toldOf (outcomeOf r) ≡ 0 → ⊥) → i ≡ imageAfter i r next
+kept-image : (i : TrackerImage) (r : frame.Reply) (next : Tracker) → (numberIn r ≡ 0 → ⊥) → i ≡ imageAfter i r next
 kept-image i (refused r) next h = refl
 kept-image i (reports rs) next h = absurd (h refl)
 
-no-reports : (r : frame.Reply) → (toldOf (outcomeOf r) ≡ 0 → ⊥) → 0 ≡ length (reportsIn r)
+no-reports : (r : frame.Reply) → (numberIn r ≡ 0 → ⊥) → 0 ≡ length (reportsIn r)
 no-reports (refused r) h = refl
 no-reports (reports rs) h = absurd (h refl)
 
 -- 0 is an accepted frame's
-new-image : (i : TrackerImage) (r : frame.Reply) (next : Tracker) → toldOf (outcomeOf r) ≡ 0 → freezeTracker next ≡ imageAfter i r next
+new-image : (i : TrackerImage) (r : frame.Reply) (next : Tracker) → numberIn r ≡ 0 → freezeTracker next ≡ imageAfter i r next
 new-image i (refused r) next h = absurd (nonzero r h)
 new-image i (reports rs) next h = refl
 
@@ -72,12 +71,12 @@ module _ (i : TrackerImage) (input boxes : List Float) (ids : List ℕ) where
     abbrev out : Out Tracker
     out = frameOf (thawTracker i) call
 
-    number : n ≡ toldOf (outcomeOf (out .reply))
-    number = k ∙ ap toldOf (f .outcome)
+    number : n ≡ numberIn (out .reply)
+    number = k ∙ f .number
 
     pub stopped : (n ≡ 0 → ⊥) → Hosted i input boxes ids i (record { number = n; count = 0 }) boxes′ ids′
     stopped h =
-        let m : toldOf (outcomeOf (out .reply)) ≡ 0 → ⊥ = λ z. h (number ∙ z) in
+        let m : numberIn (out .reply) ≡ 0 → ⊥ = λ z. h (number ∙ z) in
         hosted (frameBy i call true) (by-test true e) i (record { number = n; count = 0 }) boxes′ ids′
         (kept-image i (out .reply) (out .next) m)
         (rw (number, no-reports (out .reply) m))

@@ -20,7 +20,7 @@ use Rattle.frame.specs.State.{inRange, live, stateRules}
 use Rattle.frame.specs.Rounds.{View}
 use Rattle.frame.specs.Frame.{early, trackedView, predictTracked, unbroken, predictedTracks}
 use Rattle.frame.specs.Contract.{callOf}
-use Rattle.frame.proofs.Rules.{sound}
+use Rattle.frame.proofs.Rules.{sound, Clear, clear}
 use Rattle.rules.specs.Rules.{totalRules, soundAt}
 use Rattle.objects.specs.Cells.{padded}
 use Rattle.objects.specs.Dets.{fiveOf}
@@ -30,7 +30,6 @@ use Rattle.views.specs.Views.{twoOf, viewsOf}
 use Rattle.views.proofs.Seeing.{seen, filled-long, turn}
 use Rattle.tracks.proofs.Table as table
 use Rattle.tracks.proofs.Rules.{can-predict, predicted-short}
-use Rattle.oc_sort_tracker.proofs.Ready.{Clear, clear}
 use Rattle.image.specs.declared.TrackerImage.{TrackerImage}
 use Rattle.image.specs.Image.{Cell, tagged, isSet, thawTrack, thawTracker, meantTrack, meant, cellAt, cells, issuedIn, countIn, byteIn, framesIn}
 use Rattle.host.proofs.Testing.{totals, tracks, usable, usable-passed, usable-failed, usable-id, usable-all, bad-totals, bad-tracks, all-usable}

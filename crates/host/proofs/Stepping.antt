@@ -25,7 +25,7 @@ use Rattle.frame.specs.State.{live, stateOf, stateRules}
 use Rattle.frame.specs.Objects.{objectsOf}
 use Rattle.frame.specs.Rounds.{rounds}
 use Rattle.frame.specs.Frame.{Call, Report, early, trackedView, predictedTracks, reportOf, isReported, snocIf, reportsOf, isYoung, acceptedFrame}
-use Rattle.frame.specs.Contract.{callOf, Framed}
+use Rattle.frame.specs.Contract.{toldOf, callOf, Framed}
 use Rattle.rules.specs.Rules.{outcomeAt}
 use Rattle.objects.specs.Dets.{detsIn}
 use Rattle.rounds.specs.declared.Pairing.{Pairing}
@@ -41,7 +41,6 @@ use Rattle.oc_sort_tracker.proofs.Agree.{refused-full, accepted-agree, ready, l
 use Rattle.oc_sort_tracker.proofs.Framing.{unsound, early-refused, accepted}
 use Rattle.image.specs.declared.TrackerImage.{TrackerImage}
 use Rattle.image.specs.Image.{freezeTracker, thawTracker, meant}
-use Rattle.making.specs.Making.{toldOf}
 use Rattle.host.specs.Host.{Hosted}
 use Rattle.host.proofs.Hosting.{nonzero, unmeant, stopped, stepped}
 

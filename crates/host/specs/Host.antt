@@ -9,10 +9,9 @@ use Rattle.object.specs.declared.Refusal.the-variants.{UnsoundState}
 use Rattle.frame.specs.declared.Tracker.{Tracker}
 use Rattle.frame.specs.Frame as frame
 use Rattle.frame.specs.Frame.{Call, Out, refused, reports, frameOf, boxesAfter, idsAfter}
-use Rattle.frame.specs.Contract.{outcomeOf, reportsIn, callOf}
+use Rattle.frame.specs.Contract.{numberIn, reportsIn, callOf}
 use Rattle.image.specs.declared.TrackerImage.{TrackerImage}
 use Rattle.image.specs.Image.{freezeTracker, thawTracker, meant}
-use Rattle.making.specs.Making.{toldOf}
 use Rattle.host.specs.declared.Reply.{Reply}
 
 -- ---- a frame
@@ -31,7 +30,7 @@ unfoldable pub frameOn : TrackerImage → Call → Out TrackerImage
 frameOn i c = frameBy i c (meant i)
 
 abbrev pub replyOf : frame.Reply → Reply
-replyOf r = record { number = toldOf (outcomeOf r); count = length (reportsIn r) }
+replyOf r = record { number = numberIn r; count = length (reportsIn r) }
 
 -- a call on image i with this input and these buffers answered r, and left image′, boxes′ and ids′
 pub record Hosted (i : TrackerImage) (input boxes : List Float) (ids : List ℕ) (image′ : TrackerImage) (r : Reply) (boxes′ : List Float) (ids′ : List ℕ) : Type 0 where

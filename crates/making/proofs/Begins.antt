@@ -8,11 +8,11 @@ use Rattle.lists.specs.Lists.{pick}
 use Rattle.object.specs.Refusal.{numberOf}
 use Rattle.object.specs.declared.Refusal.the-variants.{BadSetting}
 use Rattle.frame.specs.declared.Made.{Made}
-use Rattle.frame.specs.Contract.{madeOf}
+use Rattle.frame.specs.Contract.{toldOf, madeOf, MadeBy}
 use Rattle.image.specs.declared.TrackerImage.{TrackerImage}
 use Rattle.image.specs.Image.{isSet, freezeTracker}
 use Rattle.making.specs.declared.SettingsImage.{SettingsImage}
-use Rattle.making.specs.Making.{toldOf, thawSettings, Fresh, freshOf, freshWith, begun}
+use Rattle.making.specs.Making.{thawSettings, Fresh, freshOf, freshWith, begun}
 
 -- a call answered r and left i′ for i, where this was to be made
 abbrev pub Begins : Fresh → ℕ → TrackerImage → TrackerImage → Type 0
@@ -42,10 +42,10 @@ third-tag s i h =
     )
 
 pub with-tag : (s : SettingsImage) (b : Bool) (m : Made) → s .«use_byte» ≤ 1 → b ≡ isSet (s .«use_byte»)
-    → m ≡ madeOf (record { «det_thresh» = s .«det_thresh»; «iou_threshold» = s .«iou_threshold»; inertia = s .inertia; «max_age» = s .«max_age»; «min_hits» = s .«min_hits»; «delta_t» = s .«delta_t»; «use_byte» = b }) → freshOf m ≡ freshWith s
+    → MadeBy (record { «det_thresh» = s .«det_thresh»; «iou_threshold» = s .«iou_threshold»; inertia = s .inertia; «max_age» = s .«max_age»; «min_hits» = s .«min_hits»; «delta_t» = s .«delta_t»; «use_byte» = b }) m → freshOf m ≡ freshWith s
 unfolding freshWith
 with-tag s b m h e p =
     let q : m ≡ madeOf (thawSettings s)
-    = p ∙ ap (λ (x : Bool). madeOf (record { «det_thresh» = s .«det_thresh»; «iou_threshold» = s .«iou_threshold»; inertia = s .inertia; «max_age» = s .«max_age»; «min_hits» = s .«min_hits»; «delta_t» = s .«delta_t»; «use_byte» = x })) e in
+    = p .made ∙ ap (λ (x : Bool). madeOf (record { «det_thresh» = s .«det_thresh»; «iou_threshold» = s .«iou_threshold»; inertia = s .inertia; «max_age» = s .«max_age»; «min_hits» = s .«min_hits»; «delta_t» = s .«delta_t»; «use_byte» = x })) e in
     let f : Fresh = freshOf (madeOf (thawSettings s)) in
     ap freshOf q ∙ sym (ap (λ (x : Bool). record { number = pick x (f .number) (numberOf BadSetting); image = f .image }) (le-leb (s .«use_byte») 1 h))

@@ -5,18 +5,11 @@ use Rattle.lists.specs.Lists.{pick}
 use Rattle.object.specs.Refusal.{numberOf}
 use Rattle.object.specs.declared.Refusal.the-variants.{BadSetting}
 use Rattle.frame.specs.declared.Settings.{Settings}
-use Rattle.frame.specs.declared.Outcome.{Outcome}
-use Rattle.frame.specs.declared.Outcome.the-variants.{Accepted, Refused}
 use Rattle.frame.specs.declared.Made.{Made}
-use Rattle.frame.specs.Contract.{madeOf}
+use Rattle.frame.specs.Contract.{toldOf, madeOf}
 use Rattle.image.specs.declared.TrackerImage.{TrackerImage}
 use Rattle.image.specs.Image.{freezeTracker, isSet, tagged}
 use Rattle.making.specs.declared.SettingsImage.{SettingsImage}
-
--- the number that the host is told, 0 where nothing is refused
-abbrev pub toldOf : Outcome → ℕ
-toldOf Accepted = 0
-toldOf (Refused r) = numberOf r
 
 abbrev pub thawSettings : SettingsImage → Settings
 thawSettings s = record {

@@ -4,9 +4,9 @@ use frame::Outcome;
 use frame::Settings;
 ghost use mathlib.Core.Path.{_≡_};
 ghost use Rattle.image.specs.Image.{imageOf};
-ghost use Rattle.frame.specs.Contract.{madeOf};
+ghost use Rattle.frame.specs.Contract.{toldOf, madeOf};
 ghost use Rattle.oc_sort_tracker.specs.New.{defaults};
-ghost use Rattle.making.specs.Making.{toldOf, freshOf, freshWith, begun};
+ghost use Rattle.making.specs.Making.{freshOf, freshWith, begun};
 
 // The seven settings as C and Rust pass them; use_byte is 0 or 1.
 #[repr(C)]

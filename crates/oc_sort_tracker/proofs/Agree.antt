@@ -23,7 +23,7 @@ use Rattle.frame.specs.Objects.{objectAt, objectsOf}
 use Rattle.frame.specs.Rounds.{Work, rounds, keptOf, grantOf}
 use Rattle.frame.specs.Frame.{Call, early, Out, trackedView, predictedTracks, roundsOver, giveAll, births, isFull, settled, acceptedFrame}
 use Rattle.frame.proofs.Seats.{rounds-length}
-use Rattle.frame.proofs.Rules.{ranges, Sound, sound}
+use Rattle.frame.proofs.Rules.{ranges, Sound, sound, Clear, clear}
 use Rattle.object.specs.declared.Refusal.the-variants.{FullTable}
 use Rattle.rounds.specs.declared.Pairing.{Pairing}
 use Rattle.grants.specs.Grants.{grantsOf}
@@ -38,7 +38,7 @@ use Rattle.settling.proofs.Ids.{below}
 use Rattle.settling.proofs.Tables.{holds, counts}
 use Rattle.oc_sort_tracker.specs.Refused.{refusedWith}
 use Rattle.oc_sort_tracker.proofs.Left.{rounds-few}
-use Rattle.oc_sort_tracker.proofs.Ready.{Clear, clear, low-ids}
+use Rattle.oc_sort_tracker.proofs.Ready.{low-ids}
 
 module _ (t : Tracker) (input : List Float) where
   abbrev pub es : List Tracked

@@ -15,7 +15,7 @@ use Rattle.frame.specs.declared.Outcome.the-variants.{Accepted, Refused}
 use Rattle.frame.specs.State.{stateRules}
 use Rattle.frame.specs.Frame.{Call, early, frameAt, acceptedFrame, frameOf}
 use Rattle.frame.specs.Contract.{callOf, Framed}
-use Rattle.frame.proofs.Promises.{promised}
+use Rattle.frame.proofs.Contract.{framed-by}
 use Rattle.rules.specs.Rules.{outcomeAt}
 use Rattle.settling.specs.Settled.{Answered}
 use Rattle.oc_sort_tracker.specs.Refused.{refusedWith}
@@ -38,7 +38,7 @@ module _ (t : Tracker) (input boxes : List Float) (ids : List ℕ) (r : Answer) 
   unfolding frameOf
   framed boxes′ ids′ o e a =
       let b : Answered (frameOf t call) boxes ids r boxes′ ids′ = subst (λ (x : Option Refusal). Answered (frameAt t call x) boxes ids r boxes′ ids′) (sym e) a in
-      record { outcome = b .outcome; count = b .count; next = b .next; boxes-after = b .boxes-after; ids-after = b .ids-after; promises = promised t call }
+      framed-by t input boxes ids r boxes′ ids′ (b .outcome) (b .count) (b .next) (b .boxes-after) (b .ids-after)
 
   refused-by : (q : Refusal) → r ≡ refusedWith t q → Answered (frameAt t call (some q)) boxes ids r boxes ids
   refused-by q e = record { outcome = ap (λ (a : Answer). a .outcome) e; count = ap (λ (a : Answer). a .count) e; next = ap (λ (a : Answer). a .tracker) e; boxes-after = refl; ids-after = refl }

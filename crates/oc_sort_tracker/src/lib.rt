@@ -10,7 +10,7 @@ ghost use mathlib.Core.Bool.{true};
 ghost use mathlib.Core.Option.{none};
 ghost use Rattle.frame.specs.State.{emptyTracker, stateRules};
 ghost use Rattle.frame.specs.Frame.{early, acceptedFrame};
-ghost use Rattle.frame.specs.Contract.{madeOf, callOf, Framed};
+ghost use Rattle.frame.specs.Contract.{MadeBy, callOf, Framed};
 ghost use Rattle.oc_sort_tracker.specs.New.{defaults};
 ghost use Rattle.settling.specs.Settled.{Answered};
 ghost use Rattle.oc_sort_tracker.specs.Refused.{refusedWith};
@@ -33,7 +33,7 @@ fn empty(settings: Settings) -> Tracker
 
 // A tracker with all seven settings. One that is refused still holds them, so that every frame on it is refused.
 pub fn with_settings(settings: Settings) -> Made
-    ensures { λ r. ⌜ r ≡ madeOf settings ⌝ }
+    ensures { λ r. ⌜ MadeBy settings r ⌝ }
 {
     let tracker = empty(settings);
     if rules::in_range(settings) {
@@ -50,7 +50,7 @@ pub fn with_settings(settings: Settings) -> Made
 
 // A tracker with the Rust's defaults.
 pub fn new(det_thresh: f32) -> Made
-    ensures { λ r. ⌜ r ≡ madeOf (defaults «det_thresh») ⌝ }
+    ensures { λ r. ⌜ MadeBy (defaults «det_thresh») r ⌝ }
 {
     with_settings(Settings {
         det_thresh,

@@ -36,7 +36,7 @@ use Rattle.frame.specs.State.{inRange, stateOf, emptyTracker}
 use Rattle.frame.specs.Objects.{detectionAt}
 use Rattle.frame.specs.Frame.{Call, Reply, Out, early, boxesAfter, idsAfter, frameOf}
 use Rattle.frame.specs.Contract.{madeOf, outcomeOf, reportsIn, callOf, Framed}
-use Rattle.frame.proofs.Promises.{promised}
+use Rattle.frame.proofs.Contract.{made-by, framed-by}
 use Rattle.oc_sort_tracker.specs.New.{defaults}
 use Rattle.run.specs.Book.{Stamped, Line, miss, box, Entry, Book, noneYet, live, breakEntry, trackOf, roundsOf, entered, enterAt, enter}
 use Rattle.run.specs.Claim.{inputOf, isAt, inLine, timesWritten, boxesOf, Overlapped, Because}
@@ -82,10 +82,10 @@ begun q s m e h k =
     }
 
 new-begun : (s : Settings) (κs : Lfts 0) (a : Dens κs new-call.ps) (m : Made) (e : AtExit (endedOf 0 new-call.ps new-call.r) κs) → new.Learnt κs a m e → m .outcome ≡ Accepted → m .tracker .settings ≡ s → Begun s (m .tracker)
-new-begun s κs a m e h o k = begun (defaults (a .0)) s m h o k
+new-begun s κs a m e h o k = begun (defaults (a .0)) s m (h .made) o k
 
 with-begun : (s : Settings) (κs : Lfts 0) (a : Dens κs with-call.ps) (m : Made) (e : AtExit (endedOf 0 with-call.ps with-call.r) κs) → with-settings.Learnt κs a m e → m .outcome ≡ Accepted → m .tracker .settings ≡ s → Begun s (m .tracker)
-with-begun s κs a m e h o k = begun (a .0) s m h o k
+with-begun s κs a m e h o k = begun (a .0) s m (h .made) o k
 
 -- what a caller learns of a frame call is the record `Framed`
 abbrev FramedOf : Tracker → Seen → Type 0
@@ -343,7 +343,7 @@ module _ (t : Tracker) (b : Brought) where
   answer = record { outcome = outcomeOf reply; count = length (reportsIn reply); tracker = frameOf t (callOf (b .input) (b .boxes) (b .ids)) .next }
 
   answer-to : Framed t (b .input) (b .boxes) (b .ids) answer (boxesAfter reply (b .boxes)) (idsAfter reply (b .ids))
-  answer-to = record { outcome = refl; count = refl; next = refl; boxes-after = refl; ids-after = refl; promises = promised t (callOf (b .input) (b .boxes) (b .ids)) }
+  answer-to = framed-by t (b .input) (b .boxes) (b .ids) answer (boxesAfter reply (b .boxes)) (idsAfter reply (b .ids)) refl refl refl refl refl
 
   -- the call, and the buffers as it leaves them
   abbrev asked : Dens noLifetimes frame-call.ps
@@ -368,7 +368,7 @@ module _ (t : Tracker) (b : Brought) where
 
 started : (s : Settings) → inRange s ≡ true → Run s [] (emptyTracker s)
 unfolding madeOf
-started s fine = subst (λ (u : Tracker). Run s [] u) (made-tracker s) (made-with tt (s, tt) (madeOf s) (s, tt) refl (ap (λ (b : Bool). pick b Accepted (Refused BadSetting)) fine) (made-settings s))
+started s fine = subst (λ (u : Tracker). Run s [] u) (made-tracker s) (made-with tt (s, tt) (madeOf s) (s, tt) (made-by s (madeOf s) refl) (ap (λ (b : Bool). pick b Accepted (Refused BadSetting)) fine) (made-settings s))
 
 exists : (s : Settings) → inRange s ≡ true → (bs : List Brought) → (xs : List Seen) × (t : Tracker) × Run s xs t × (map broughtTo xs ≡ bs)
 exists s fine [] = ([], emptyTracker s, started s fine, refl)

@@ -1,25 +1,24 @@
 -- What the state rules tell of each track: it can be predicted, and given a box after that. Assumes nothing.
 use mathlib.Core.Path.{_≡_, refl, sym, ap, _∙_}
-use mathlib.Core.Bool.{Bool, true, false, not, _&&_, Bool·beq}
+use mathlib.Core.Bool.{Bool, true, false, _&&_}
 use mathlib.Core.List.{List, [], _∷_, map}
 use Prim.Native.Nat.{ℕ, zero, suc, _+_, _≤_, _<_}
 use native.Mathlib.Nat.{not-suc-le-zero, le-of-suc-le-suc}
 use native.Mathlib.Omega.{arith}
-use borrow.Author.Tests.{leb-true, le-leb}
-use lib.Dec.{leb, ltb, eqb}
+use borrow.Author.Tests.{le-leb}
+use lib.Dec.{leb}
 use lib.ListN.{length, take, getD, length-take, length-map}
 use lib.Seq.{getD-take}
 use Rattle.lists.specs.Lists.{put, keep, every}
 use Rattle.lists.proofs.Keep.{keep-short}
-use Rattle.strack.specs.declared.Track.{Track}
-use Rattle.strack.specs.Track.{streakAfter, trackPredict, isSeen}
-use Rattle.strack.specs.Rules.{ownRules, holdsList}
+use Rattle.strack.specs.Track.{streakAfter, trackPredict}
 use Rattle.frame.specs.declared.Settings.{Settings}
 use Rattle.frame.specs.declared.Tracked.{Tracked}
 use Rattle.frame.specs.declared.Tracker.{Tracker}
 use Rattle.frame.specs.State.{live, trackRules, stateRules}
 use Rattle.lapjv_walk.proofs.Cases.{and-left, and-right}
-use Rattle.frame.proofs.Rules.{ranges, Sound, sound}
+use Rattle.frame.proofs.OwnRules.{streak-after}
+use Rattle.frame.proofs.Rules.{ranges, Bounded, bounded, Sound, sound}
 use Rattle.frame.specs.Frame.{predictTracked, unbroken, predictedTracks}
 use Rattle.one_track.specs.OneTrack.{givable}
 
@@ -37,35 +36,6 @@ every-at p (x ∷ l) (suc i) d e h = every-at p l i d (and-right (p x) (every p 
 pub every-taken : {A : Type 0} (p : A → Bool) (l : List A) (n i : ℕ) (d : A) → every p (take n l) ≡ true → i < n → i < length l → p (getD l i d) ≡ true
 every-taken p l n i d e h m = sym (ap p (getD-take n l i d h)) ∙ every-at p (take n l) i d e (omega (arith, length-take n l))
 
--- ---- the rules of a track
-
-streak-rule : (t : Track) → ownRules t ≡ true → t .streak ≤ t .age
-unfolding ownRules
-streak-rule t h =
-    let a = leb (t .streak) (t .age) in
-    let b = leb (t .since) (t .age) in
-    let c = Bool·beq (holdsList (t .list)) (isSeen (t .last)) in
-    let d = not (eqb (t .since) (t .age) && isSeen (t .last)) in
-    let e = Bool·beq (t .frozen) (isSeen (t .last) && ltb 0 (t .since)) in
-    leb-true _ _ (and-left a b (and-left (a && b) c (and-left (a && b && c) d (and-left (a && b && c && d) e h))))
-
-pub record Bounded (s : Settings) (frames : ℕ) (e : Tracked) : Type 0 where
-  pub age : e .track .age ≤ frames
-  pub since : e .track .since ≤ s .«max_age»
-  pub streak : e .track .streak ≤ e .track .age
-
-bounded : (s : Settings) (frames : ℕ) (e : Tracked) → trackRules s frames e ≡ true → Bounded s frames e
-unfolding trackRules
-bounded s frames e h =
-    let a = leb (e .track .age) frames in
-    let b = leb (e .track .since) (s .«max_age») in
-    let own = ownRules (e .track) in
-    record {
-      age = leb-true _ _ (and-left a b (and-left (a && b) own h));
-      since = leb-true _ _ (and-right a b (and-left (a && b) own h));
-      streak = streak-rule (e .track) (and-right (a && b) own h);
-    }
-
 -- ---- prediction
 
 pub can-predict : (t : Tracker) (i : ℕ) (d : Tracked) → Sound t → i < t .count → i < length (t .table)
@@ -74,15 +44,11 @@ can-predict t i d s h m =
     let b = bounded (t .settings) (t .frames) (getD (t .table) i d) (every-taken (trackRules (t .settings) (t .frames)) (t .table) (t .count) i d (s .each) h m) in
     (omega (arith, b .age, s .frames), omega (arith, b .since, ranges (t .settings) (s .in-range) .max-age))
 
-streak-most : (since streak : ℕ) → streakAfter since streak ≤ streak
-streak-most zero streak = omega arith
-streak-most (suc n) streak = omega arith
-
 predict-givable : (s : Settings) (frames : ℕ) (e : Tracked) → s .«max_age» ≤ 255 → frames ≤ 1000000 → Bounded s frames e → givable (predictTracked e) ≡ true
 unfolding givable trackPredict
 predict-givable s frames e m f b =
     and-both (leb (e .track .since + 1) 256) (leb (streakAfter (e .track .since) (e .track .streak)) 1000000) (le-leb (e .track .since + 1) 256 (omega (arith, b .since, m)))
-    (le-leb (streakAfter (e .track .since) (e .track .streak)) 1000000 (omega (arith, streak-most (e .track .since) (e .track .streak), b .streak, b .age, f)))
+    (le-leb (streakAfter (e .track .since) (e .track .streak)) 1000000 (omega (arith, streak-after (e .track) (b .own), b .age, f)))
 
 kept-givable : (s : Settings) (frames : ℕ) (es : List Tracked) → s .«max_age» ≤ 255 → frames ≤ 1000000 → every (trackRules s frames) es ≡ true → every givable (keep unbroken (map predictTracked es)) ≡ true
 kept-givable s frames [] m f h = refl

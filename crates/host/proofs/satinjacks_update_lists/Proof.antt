@@ -12,11 +12,10 @@ use Rattle.frame.specs.State.{stateOf}
 use Rattle.frame.specs.Objects.{objectsOf}
 use Rattle.frame.specs.Rounds.{rounds}
 use Rattle.frame.specs.Frame.{trackedView}
-use Rattle.frame.specs.Contract.{callOf}
+use Rattle.frame.specs.Contract.{toldOf, callOf}
 use Rattle.frame.proofs.Rules.{ranges, sound}
 use Rattle.rounds.specs.Pairs.{Pairs}
 use Rattle.image.specs.Image.{imageOf, issuedIn, framesIn, thawTracker, freezeTracker}
-use Rattle.making.specs.Making.{toldOf}
 use Rattle.host.proofs.Stepping.{unusable, stop-early, not-stopped, stop-full, few-left, step-accepted}
 use Rattle.host.proofs.Stages.{settingsIn, aheadIn, same-settings, Tested, few, totals-failed, tested-first, tested-failed, tested-passed, tested-id, tested-done, tested-read, obeys, tags, is-clear, few-live, Foreseen, foreseen-first, foreseen-few, predictable, foreseen-taken, foreseen-left, foreseen-done, Viewed, viewed-few, long-predicted, long-directions, long-lasts, long-previous, viewed-turn, viewed-done}
 use Rattle.host.proofs.Settling.{leftIn, settles, Giving, giving-first, giving-few, giving-ahead, can-give, giving-taken, giving-left, giving-done, Bearing, bearing-first, bearing-room, bearing-full, bearing-ids, bearing-long, bearing-turn, bearing-done, Telling, telling-first, telling-live, telling-boxes, telling-ids, can-tell, telling-turn, telling-done, Storing, storing-first, storing-turn, storing-done}

@@ -13,7 +13,7 @@ begin-requires : tie.Need-begin-requires
 begin-requires c κs = search needs
 
 returns : tie.Need-returns
-returns c = begins-as _ _ _ _ _ (ap freshOf (c .before .before .before .before .new .ensures)) (c .begin .ensures)
+returns c = begins-as _ _ _ _ _ (ap freshOf (c .before .before .before .before .new .ensures .made)) (c .begin .ensures)
 
 pub new-spec : {M : Type 1} → statement M
 new-spec = tie.close (tie.spec new-requires begin-requires returns)

@@ -2,7 +2,7 @@
 use borrow.Author.Needs.{needs}
 use Rattle.frame.specs.Contract.{callOf}
 use Rattle.frame.proofs.Rules.{sound, ranges}
-use Rattle.oc_sort_tracker.proofs.Ready.{clear}
+use Rattle.frame.proofs.Rules.{clear}
 use Rattle.oc_sort_tracker.proofs.Agree.{left-short, refused-full, accepted-agree, ready, table-short}
 use Rattle.oc_sort_tracker.proofs.accepted.Statement.{statement}
 use Rattle.oc_sort_tracker.proofs.accepted.Tie as tie
