@@ -51,7 +51,7 @@ read-at (r ∷ rs) more others d zero h = refl
 read-at (r ∷ rs) more others d (suc k) h =
     rw (first-further r rs more k, cells-further r rs more k 1, cells-further r rs more k 2, cells-further r rs more k 3) (read-at rs more others d k (le-of-suc-le-suc h))
 
-pub read-back : (reply : Reply) (boxes : List Float) (ids : List ℕ) → reportsIn reply ≡ tab (reportAt (boxesAfter reply boxes) (idsAfter reply ids)) (length (reportsIn reply))
+read-back : (reply : Reply) (boxes : List Float) (ids : List ℕ) → reportsIn reply ≡ tab (reportAt (boxesAfter reply boxes) (idsAfter reply ids)) (length (reportsIn reply))
 read-back (refused r) boxes ids = refl
 read-back (reports rs) boxes ids =
     let read : ℕ → Report = reportAt (boxesAfter (reports rs) boxes) (idsAfter (reports rs) ids) in

@@ -1,7 +1,7 @@
 -- What the calls promise: the answer, the next state and every cell of both buffers. Definitions only.
 use mathlib.Core.Path.{_≡_}
-use mathlib.Core.List.{List, [], _∷_, _++_, map, List·Memᴰ}
 use mathlib.Core.Bool.{true}
+use mathlib.Core.List.{List, [], _∷_, _++_, map, List·Memᴰ}
 use Prim.Native.Nat.{ℕ, suc, _+_, _-_, _*_, _≤_, _<_}
 use lib.Ieee.{Float, nan}
 use lib.ListN.{length, getD}
@@ -26,7 +26,7 @@ abbrev pub toldOf : Outcome → ℕ
 toldOf Accepted = 0
 toldOf (Refused r) = numberOf r
 
--- document 01's number of a reply, 0 where accepted
+-- document 01's number of a reply, 0 where the frame is accepted
 abbrev pub numberIn : Reply → ℕ
 numberIn (refused r) = numberOf r
 numberIn (reports rs) = 0
@@ -40,7 +40,7 @@ madeOf s = record { outcome = pick (inRange s) Accepted (Refused BadSetting); tr
 -- a call with settings s made r
 pub record MadeBy (s : Settings) (r : Made) : Type 0 where
   pub made : r ≡ madeOf s
-  -- 2 exactly where a setting is out of range
+  -- bad setting exactly where one is out of range
   pub number : toldOf (r .outcome) ≡ pick (inRange s) 0 (numberOf BadSetting)
 
 -- ---- a frame
@@ -71,7 +71,10 @@ pub data Subsequence : List ℕ → List ℕ → Type 0 where
 
 -- the report that stands k-th in the buffers: x, y, width and height in cells 4k to 4k + 3, the id in cell k
 abbrev pub reportAt : List Float → List ℕ → ℕ → Report
-reportAt boxes ids k = record { rect = record { x = getD boxes (4 * k) nan; y = getD boxes (4 * k + 1) nan; width = getD boxes (4 * k + 2) nan; height = getD boxes (4 * k + 3) nan }; id = getD ids k 0 }
+reportAt boxes ids k = record {
+  rect = record { x = getD boxes (4 * k) nan; y = getD boxes (4 * k + 1) nan; width = getD boxes (4 * k + 2) nan; height = getD boxes (4 * k + 3) nan };
+  id = getD ids k 0;
+}
 
 -- What a caller may rely on without the definitions: t is the state before the call, next the state that it returned.
 pub record Promises (t : Tracker) (reply : Reply) (next : Tracker) : Type 0 where
@@ -81,11 +84,11 @@ pub record Promises (t : Tracker) (reply : Reply) (next : Tracker) : Type 0 wher
   pub reported-fall : Falling (reportedIds reply)
   -- the returned live ids are a subsequence of the old ones followed by the newly issued
   pub lineage : (kept : List ℕ) × Subsequence kept (liveIds t) × (liveIds next ≡ kept ++ upFrom (t .issued) (next .issued - t .issued))
-  -- an id once issued is never taken back
+  -- the number of ids issued never falls
   pub issued-grows : t .issued ≤ next .issued
-  -- an accepted frame counts as one
+  -- an accepted frame raises the number of frames by 1
   pub counted : (rs : List Report) → reply ≡ reports rs → next .frames ≡ suc (t .frames)
-  -- a refused one changes nothing, whatever was refused
+  -- a refused one leaves the state as it was
   pub kept : (r : Refusal) → reply ≡ refused r → next ≡ t
   -- an accepted frame leaves at most 64 live tracks
   pub room : (rs : List Report) → reply ≡ reports rs → length (liveIds next) ≤ 64
@@ -98,6 +101,7 @@ callOf input boxes ids = record { input = input; boxes = length boxes; ids = len
 -- a call on t with this input and these buffers answered r and left the buffers boxes′ and ids′
 pub record Framed (t : Tracker) (input boxes : List Float) (ids : List ℕ) (r : Answer) (boxes′ : List Float) (ids′ : List ℕ) : Type 0 where
   pub outcome : r .outcome ≡ outcomeOf (frameOf t (callOf input boxes ids) .reply)
+  -- the number in document 01's table, 0 where accepted
   pub number : toldOf (r .outcome) ≡ numberIn (frameOf t (callOf input boxes ids) .reply)
   pub count : r .count ≡ length (reportsIn (frameOf t (callOf input boxes ids) .reply))
   pub next : r .tracker ≡ frameOf t (callOf input boxes ids) .next
