@@ -13,23 +13,27 @@ use borrow.Author.Tests.{ltb-false, leb-false, lt-ltb, le-ltb, eqb-true}
 use Rattle.lists.specs.Lists.{pick, sumOf, upFrom, All}
 use Rattle.lists.proofs.Tab.{length-tab}
 use Rattle.lists.proofs.Keep.{keep-append, keep-short}
-use Rattle.lists.proofs.All.{all-map, all-append, map-append, sum-same, length-sum, upFrom-append}
+use Rattle.lists.proofs.All.{all-map, all-append, all-any, map-append, sum-same, length-sum, upFrom-append}
 use Rattle.object.specs.declared.Refusal.{Refusal}
-use Rattle.object.specs.declared.Refusal.the-variants.{RaggedFrame, CrowdedFrame, ShortAnswer, RunOver}
+use Rattle.object.specs.declared.Refusal.the-variants.{RaggedFrame, CrowdedFrame, ShortAnswer, RunOver, FullTable}
 use Rattle.frame.specs.declared.Settings.{Settings}
+use Rattle.frame.specs.declared.Outcome.{Outcome}
+use Rattle.frame.specs.declared.Outcome.the-variants.{Accepted, Refused}
 use Rattle.frame.specs.State.{inRange, stateRules}
 use Rattle.frame.specs.Objects.{Obj, detectionAt, objectAt, objectsOf, firstScore, spareScore, firstClass, spares}
 use Rattle.frame.specs.Rounds.{View, Slot, Work}
 use Rattle.frame.specs.Frame.{Call, early}
-use Rattle.run.specs.Book.{broken, agedOut, Entry, Book, isOpen, live, closedBy, breaks, breakEntry, isOld, ageEntry, viewOfEntry, nextLine, write, opened, entriesAfter, entered, roundsOf, enterAt, enter}
+use Rattle.frame.specs.Contract.{outcomeOf}
+use Rattle.run.specs.Book.{broken, agedOut, Entry, Book, isOpen, live, closedBy, breaks, bookState, breakEntry, isOld, ageEntry, viewOfEntry, nextLine, write, opened, entriesAfter, entered, roundsOf, enterAt, enter}
 use Rattle.run.specs.Claim.{timesWritten, boxesOf, Meets, Because, Grown}
 use Rattle.run.specs.Laws.{scoreAt, PlacedAt, Tidy, Laws}
 use Rattle.frame.proofs.Seats.{rounds-length, Fairly, slot-weight, GotSlot}
 use Rattle.lapjv_walk.proofs.Cases.{never}
 use Rattle.run.proofs.Rounds.{byteObjects, rounds-views, rounds-fairly, rounds-weight, rounds-left, rounds-from}
-use Rattle.run.proofs.Sim.{live-young, write-length, opened-length, bookState}
+use Rattle.run.proofs.Sim.{live-young, write-length, opened-length}
 use Rattle.run.proofs.Rules.{Lined, lawful}
-use Rattle.run.proofs.Writing.{write-all, ids, ids-status, ids-write, ids-opened, hit, live-write-length, live-opened-length, grown-write, later-same}
+use Rattle.run.proofs.Writing.{write-all, ids, ids-status, ids-write, ids-opened, hit, live-write-length, live-opened-length, grown-write, born-opened}
+use Rattle.run.proofs.Lines.{all-both, LivedEntry, Fit, fit-break, fit-line, lived-opened, Spanned, BetweenEntry, span-break, span-stays, span-line, span-age, span-opened, all-current}
 use Rattle.run.proofs.Places.{at, sum-places, OfInput, objects-of-input}
 use Rattle.run.proofs.Laws.{Over, over-line, over-opened, tidy-line, tidy-more, tidy-opened, tidy-status, ShutEntry, shut-break, shut-age, shut-line, shut-opened, all-young, GenuineEntry, all-genuine-more, genuine-line, genuine-opened, written-after, hit-now, written-other, written-status, placed-old}
 
@@ -54,6 +58,9 @@ early-none n c h = go (eqb (length (c .input) % 5) 0) (ltb (64 * 5) (length (c .
     go true false true v e₀ e₁ e₂ r = some-none ShortAnswer r
     go true false false true e₀ e₁ e₂ r = some-none RunOver r
     go true false false false e₀ e₁ e₂ r = record { whole = eqb-true _ _ e₀; few = ltb-false (64 * 5) (length (c .input)) e₁; before-end = leb-false 1000000 n e₂ }
+
+pub refused-accepted : {A : Type 0} (r : Refusal) → _≡_ {A = Outcome} (Refused r) Accepted → A
+refused-accepted r e = absurd (let z : _≡_ {A = ℕ} 0 1 = cc in omega arith)
 
 -- ---- what a place weighs
 
@@ -164,7 +171,7 @@ module _ (s : Settings) (fine : inRange s ≡ true) (b : Book) (c : Call) (ok : 
   tidy-after =
       tidy-status n (λ e. closedBy agedOut (e .status) (isOld s e)) (write n es (w .slots) ++ fresh)
       (all-append (Tidy n) (write n es (w .slots)) fresh
-      (write-all s (Fairly (Meets s)) n (Tidy (b .frames)) (Tidy n) (tidy-more (b .frames)) (λ e a o v f t. tidy-line (b .frames) e (a .got) t) es (w .slots) slots-views (rounds-fairly s fine vs os)
+      (write-all s (Fairly (Meets s)) n (Tidy (b .frames)) (Tidy n) (λ e c. tidy-more (b .frames) e) (λ e a o v f t. tidy-line (b .frames) e (a .got) t) es (w .slots) slots-views (rounds-fairly s fine vs os)
       (tidy-status (b .frames) (λ e. closedBy broken (e .status) (breaks s e)) (b .entries) (ok .tidy)))
       (tidy-opened (b .frames) (length es) (w .left)))
 
@@ -172,7 +179,7 @@ module _ (s : Settings) (fine : inRange s ≡ true) (b : Book) (c : Call) (ok : 
   over-after =
       all-map (Over s) (Over s) (ageEntry s) (λ e h. h) (write n es (w .slots) ++ fresh)
       (all-append (Over s) (write n es (w .slots)) fresh
-      (write-all s (Fairly (Meets s)) n (Over s) (Over s) (λ e h. h) (λ e a o v f t. over-line s n e (a .view) (a .got) v f t) es (w .slots) slots-views (rounds-fairly s fine vs os)
+      (write-all s (Fairly (Meets s)) n (Over s) (Over s) (λ e c h. h) (λ e a o v f t. over-line s n e (a .view) (a .got) v f t) es (w .slots) slots-views (rounds-fairly s fine vs os)
       (all-map (Over s) (Over s) (breakEntry s) (λ e h. h) (b .entries) (ok .overlapped)))
       (over-opened s n (length es) (w .left)))
 
@@ -180,7 +187,7 @@ module _ (s : Settings) (fine : inRange s ≡ true) (b : Book) (c : Call) (ok : 
   caused-after =
       all-map (ShutEntry s) (λ e. Because s e (e .status)) (ageEntry s) (shut-age s) (write n es (w .slots) ++ fresh)
       (all-append (ShutEntry s) (write n es (w .slots)) fresh
-      (write-all s (Fairly (Meets s)) n (ShutEntry s) (ShutEntry s) (λ e h. h) (λ e a o v f t. shut-line s n e (nextLine n (a .got)) o) es (w .slots) slots-views (rounds-fairly s fine vs os)
+      (write-all s (Fairly (Meets s)) n (ShutEntry s) (ShutEntry s) (λ e c h. h) (λ e a o v f t. shut-line s n e (nextLine n (a .got)) o) es (w .slots) slots-views (rounds-fairly s fine vs os)
       (all-map (λ e. Because s e (e .status)) (ShutEntry s) (breakEntry s) (shut-break s) (b .entries) (ok .caused)))
       (shut-opened s n (length es) (w .left)))
 
@@ -193,7 +200,7 @@ module _ (s : Settings) (fine : inRange s ≡ true) (b : Book) (c : Call) (ok : 
       let G : Entry → Type 0 = GenuineEntry (c .input ∷ b .past) in
       all-map G G (ageEntry s) (λ e h. h) (write n es (w .slots) ++ fresh)
       (all-append G (write n es (w .slots)) fresh
-      (write-all s (GotSlot (OfInput (c .input))) n (GenuineEntry (b .past)) G (λ e h. all-genuine-more (c .input) (b .past) (boxesOf (e .birth) (e .lines)) h) (λ e a o v f t. genuine-line (c .input) (b .past) n this-frame e (a .got) f t) es (w .slots) slots-views (r .0)
+      (write-all s (GotSlot (OfInput (c .input))) n (GenuineEntry (b .past)) G (λ e q h. all-genuine-more (c .input) (b .past) (boxesOf (e .birth) (e .lines)) h) (λ e a o v f t. genuine-line (c .input) (b .past) n this-frame e (a .got) f t) es (w .slots) slots-views (r .0)
       (all-map (GenuineEntry (b .past)) (GenuineEntry (b .past)) (breakEntry s) (λ e h. h) (b .entries) (ok .genuine)))
       (genuine-opened (c .input) (b .past) n this-frame (length es) (w .left) (r .1)))
 
@@ -201,13 +208,29 @@ module _ (s : Settings) (fine : inRange s ≡ true) (b : Book) (c : Call) (ok : 
   lined-after =
       all-map (Lined n) (Lined n) (ageEntry s) (λ e h. h) (write n es (w .slots) ++ fresh)
       (all-append (Lined n) (write n es (w .slots)) fresh
-      (write-all s (Fairly (Meets s)) n (Lined (b .frames)) (Lined n) (λ e h. omega arith) (λ e a o v f h. omega arith) es (w .slots) slots-views (rounds-fairly s fine vs os)
+      (write-all s (Fairly (Meets s)) n (Lined (b .frames)) (Lined n) (λ e c h. omega arith) (λ e a o v f h. omega arith) es (w .slots) slots-views (rounds-fairly s fine vs os)
       (all-map (Lined (b .frames)) (Lined (b .frames)) (breakEntry s) (λ e h. h) (b .entries) (ok .lined)))
       (lined-opened (length es) (w .left)))
     where
       lined-opened : (i : ℕ) (ls : List Obj) → All (Lined n) (opened n i ls)
       lined-opened i [] = tt
       lined-opened i (o ∷ ls) = (omega arith, lined-opened (suc i) ls)
+
+  lived-after : All (LivedEntry s) after
+  lived-after =
+      all-map (LivedEntry s) (LivedEntry s) (ageEntry s) (λ e h. h) (write n es (w .slots) ++ fresh)
+      (all-append (LivedEntry s) (write n es (w .slots)) fresh
+      (write-all s (λ a. Unit {0}) n (Fit s) (LivedEntry s) (λ e c h. h .0) (λ e a o v f h. fit-line s e (nextLine n (a .got)) o h) es (w .slots) slots-views (all-any (λ a. tt) (w .slots))
+      (all-map (λ e. Because s e (e .status) × LivedEntry s e) (Fit s) (breakEntry s) (fit-break s) (b .entries) (all-both (λ e. Because s e (e .status)) (LivedEntry s) (b .entries) (ok .caused) (ok .lived))))
+      (lived-opened s n (length es) (w .left)))
+
+  spanned-after : All (Spanned n) after
+  spanned-after =
+      all-map (Spanned n) (Spanned n) (ageEntry s) (span-age s n) (write n es (w .slots) ++ fresh)
+      (all-append (Spanned n) (write n es (w .slots)) fresh
+      (write-all s (λ a. Unit {0}) n (BetweenEntry (b .frames)) (Spanned n) (span-stays s (b .frames)) (λ e a o v f h. span-line s (b .frames) e (a .got) o h) es (w .slots) slots-views (all-any (λ a. tt) (w .slots))
+      (all-map (Spanned (b .frames)) (BetweenEntry (b .frames)) (breakEntry s) (span-break s (b .frames)) (b .entries) (ok .spanned)))
+      (span-opened n (length es) (w .left)))
 
   length-after : length after ≡ length (b .entries) + length (w .left)
   length-after = omega (arith, length-map (write n es (w .slots) ++ fresh) (ageEntry s), length-append (write n es (w .slots)) fresh, write-length n es (w .slots), opened-length n (length es) (w .left), length-map (b .entries) (breakEntry s))
@@ -251,6 +274,8 @@ module _ (s : Settings) (fine : inRange s ≡ true) (b : Book) (c : Call) (ok : 
     );
     genuine = genuine-after;
     caused = caused-after;
+    lived = lived-after;
+    spanned = spanned-after;
     in-run = omega (arith, early-none (b .frames) c passed .before-end);
     few = omega (arith, length-after, few-born, ok .few);
     room = room-after;
@@ -280,21 +305,22 @@ never-unsound s fine b ok = lawful s fine b (ok .in-run) (ok .few) (ok .room) (o
 
 -- ---- growth
 
-grown-same : (es : List Entry) → Grown es es
-grown-same [] = tt
-grown-same (e ∷ es) = (later-same e, grown-same es)
-
-entered-grown : (s : Settings) (b : Book) (c : Call) (r : Option Refusal) → Grown (b .entries) (enterAt s b c r .next .entries)
-entered-grown s b c (some r) = grown-same (b .entries)
-entered-grown s b c none = go (ltb 64 (length (live es′) + length (roundsOf s es′ (c .input) .left)))
+-- an accepted call, by its reply
+entered-grown : (s : Settings) (b : Book) (c : Call) → Laws s b → (r : Option Refusal) → outcomeOf (enterAt s b c r .reply) ≡ Accepted → Grown (enterAt s b c r .next .frames) (b .entries) (enterAt s b c r .next .entries)
+entered-grown s b c ok (some r) h = refused-accepted r h
+entered-grown s b c ok none h = go (ltb 64 (length (live es′) + length (w .left))) h
   where
     es′ : List Entry
     es′ = map (breakEntry s) (b .entries)
 
-    go : (full : Bool) → Grown (b .entries) (entered s b (c .input) es′ (roundsOf s es′ (c .input)) full .next .entries)
-    go true = grown-same (b .entries)
-    go false = grown-write s (b .frames + 1) (b .entries) (roundsOf s es′ (c .input) .slots) (opened (b .frames + 1) (length es′) (roundsOf s es′ (c .input) .left))
+    w : Work
+    w = roundsOf s es′ (c .input)
 
-pub enter-grown : (s : Settings) (b : Book) (c : Call) → Grown (b .entries) (enter s b c .next .entries)
+    go : (full : Bool) → outcomeOf (entered s b (c .input) es′ w full .reply) ≡ Accepted → Grown (entered s b (c .input) es′ w full .next .frames) (b .entries) (entered s b (c .input) es′ w full .next .entries)
+    go true q = refused-accepted FullTable q
+    go false q = grown-write s (b .frames) (b .entries) (w .slots) (opened (b .frames + 1) (length es′) (w .left))
+        (rounds-length s (map (viewOfEntry s) (live es′)) (objectsOf (c .input)) ∙ length-map (live es′) (viewOfEntry s)) (born-opened s (b .frames) (length es′) (w .left)) (all-current s (b .frames) (b .entries) (ok .spanned))
+
+pub enter-grown : (s : Settings) (b : Book) (c : Call) → Laws s b → outcomeOf (enter s b c .reply) ≡ Accepted → Grown (enter s b c .next .frames) (b .entries) (enter s b c .next .entries)
 unfolding enter
-enter-grown s b c = entered-grown s b c (early (b .frames) c)
+enter-grown s b c ok h = entered-grown s b c ok (early (b .frames) c) h

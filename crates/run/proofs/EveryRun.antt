@@ -38,19 +38,17 @@ use Rattle.frame.specs.Frame.{Call, Reply, Out, early, boxesAfter, idsAfter, fr
 use Rattle.frame.specs.Contract.{madeOf, outcomeOf, reportsIn, callOf, Framed}
 use Rattle.frame.proofs.Contract.{made-by, framed-by}
 use Rattle.oc_sort_tracker.specs.New.{defaults}
-use Rattle.run.specs.Book.{Stamped, Line, miss, box, Entry, Book, noneYet, live, breakEntry, trackOf, roundsOf, entered, enterAt, enter}
+use Rattle.run.specs.Book.{Stamped, Line, miss, box, Entry, Book, noneYet, live, bookState, breakEntry, trackOf, roundsOf, entered, enterAt, enter}
 use Rattle.run.specs.Claim.{inputOf, isAt, inLine, timesWritten, boxesOf, Overlapped, Because}
 use Rattle.run.specs.Laws.{PlacedAt, Placed, Genuine, Tidy, Laws}
 use Rattle.run.specs.Lent as lent-call
-use Rattle.run.specs.Run.{Seen, seenOf, seenIn, Run, made-new, made-with, called, lent, Brought, broughtTo, callSeen, bookOf, bookReply, Gave, Answered, withInput, acceptedInputs, inputAt, Histories, Holds, EveryRun}
-use Rattle.run.proofs.Sim.{bookState, outOf, alike, live-state}
+use Rattle.run.specs.Run.{Seen, seenOf, seenIn, Event, frame, Run, made-new, made-with, called, lent, Brought, broughtTo, callSeen, bookOf, bookReply, Gave, Answered, withInput, acceptedInputs, inputAt, Histories, Holds, EveryRun}
+use Rattle.run.proofs.Sim.{outOf, alike, live-state}
 use Rattle.run.proofs.Laws.{at-first}
-use Rattle.run.proofs.Accepted.{kept-laws, never-unsound, enter-grown}
+use Rattle.run.proofs.Lines.{LivedEntry, Spanned}
+use Rattle.run.proofs.Accepted.{refused-accepted, kept-laws, never-unsound, enter-grown}
 
 -- ---- what the contracts say
-
-accepted-refused : {A : Type 0} (r : Refusal) → _≡_ {A = Outcome} Accepted (Refused r) → A
-accepted-refused r e = absurd (let z : _≡_ {A = ℕ} 0 1 = cc in omega arith)
 
 -- accepted settings are in range, and the tracker is the empty one
 pub record Begun (s : Settings) (t : Tracker) : Type 0 where
@@ -71,7 +69,7 @@ made-accepted s h = go (inRange s) h
   where
     go : (b : Bool) → pick b Accepted (Refused BadSetting) ≡ Accepted → b ≡ true
     go true e = refl
-    go false e = accepted-refused BadSetting (sym e)
+    go false e = refused-accepted BadSetting e
 
 begun : (q s : Settings) (m : Made) → m ≡ madeOf q → m .outcome ≡ Accepted → m .tracker .settings ≡ s → Begun s (m .tracker)
 begun q s m e h k =
@@ -98,23 +96,23 @@ framed-in : (t : Tracker) (κs : Lfts 4) (a : lent-call.Dens κs) (r : Told) (e 
 framed-in t κs a r e h same = subst (λ (u : Tracker). FramedOf u (seenIn κs a r e)) same h
 
 -- a run by what its calls told, whichever they were
-data Told-by (s : Settings) : List Seen → Tracker → Type 0 where
+data Told-by (s : Settings) : List Event → Tracker → Type 0 where
   making : {t : Tracker} → Begun s t → Told-by s [] t
-  frame : {xs : List Seen} {t : Tracker} → Told-by s xs t → (x : Seen) → FramedOf t x → Told-by s (x ∷ xs) (x .answer .tracker)
+  telling : {xs : List Event} {t : Tracker} → Told-by s xs t → (x : Seen) → FramedOf t x → Told-by s (frame x ∷ xs) (x .answer .tracker)
 
-told-by : {s : Settings} {xs : List Seen} {t : Tracker} → Run s xs t → Told-by s xs t
+told-by : {s : Settings} {xs : List Event} {t : Tracker} → Run s xs t → Told-by s xs t
 told-by {s} (made-new κs a m e h o k) = making (new-begun s κs a m e h o k)
 told-by {s} (made-with κs a m e h o k) = making (with-begun s κs a m e h o k)
-told-by (called {xs} {t} r κs a x e h same) = frame (told-by r) (seenOf κs a x e) (framed t κs a x e h same)
-told-by (lent {xs} {t} r κs a x e h same) = frame (told-by r) (seenIn κs a x e) (framed-in t κs a x e h same)
+told-by (called {xs} {t} r κs a x e h same) = telling (told-by r) (seenOf κs a x e) (framed t κs a x e h same)
+told-by (lent {xs} {t} r κs a x e h same) = telling (told-by r) (seenIn κs a x e) (framed-in t κs a x e h same)
 
-in-range : {s : Settings} {xs : List Seen} {t : Tracker} → Told-by s xs t → inRange s ≡ true
+in-range : {s : Settings} {xs : List Event} {t : Tracker} → Told-by s xs t → inRange s ≡ true
 in-range (making m) = m .fine
-in-range (frame r x f) = in-range r
+in-range (telling r x f) = in-range r
 
-laws : (s : Settings) → inRange s ≡ true → (xs : List Seen) → Laws s (bookOf s xs)
+laws : (s : Settings) → inRange s ≡ true → (xs : List Event) → Laws s (bookOf s xs)
 laws s fine [] = at-first s
-laws s fine (x ∷ xs) = kept-laws s fine (bookOf s xs) (callSeen x) (laws s fine xs)
+laws s fine (frame x ∷ xs) = kept-laws s fine (bookOf s xs) (callSeen x) (laws s fine xs)
 
 -- ---- the tracker is the state that the book stands for
 
@@ -122,7 +120,7 @@ fresh-state : (s : Settings) → emptyTracker s ≡ bookState s noneYet
 unfolding emptyTracker bookState
 fresh-state s = refl
 
-module _ (s : Settings) (fine : inRange s ≡ true) (xs : List Seen) (x : Seen) (t : Tracker) (same : t ≡ bookState s (bookOf s xs)) where
+module _ (s : Settings) (fine : inRange s ≡ true) (xs : List Event) (x : Seen) (t : Tracker) (same : t ≡ bookState s (bookOf s xs)) where
   abbrev b : Book
   b = bookOf s xs
 
@@ -132,24 +130,22 @@ module _ (s : Settings) (fine : inRange s ≡ true) (xs : List Seen) (x : Seen) 
   replied : frameOf t (callSeen x) .reply ≡ bookReply s xs x
   replied = ap (λ (o : Out Tracker). o .reply) stepped
 
-  pub gave : FramedOf t x → Gave x (bookReply s xs x)
+  pub gave : FramedOf t x → Gave x (bookReply s xs x) (bookState s (bookOf s (frame x ∷ xs)))
   gave f = record {
     outcome = f .outcome ∙ ap outcomeOf replied;
     count = f .count ∙ ap (λ (r : Reply). length (reportsIn r)) replied;
     boxes = f .boxes-after ∙ ap (λ (r : Reply). boxesAfter r (x .boxes)) replied;
     ids = f .ids-after ∙ ap (λ (r : Reply). idsAfter r (x .ids)) replied;
+    tracker = f .next ∙ ap (λ (o : Out Tracker). o .next) stepped;
   }
 
-  pub state-next : FramedOf t x → x .answer .tracker ≡ bookState s (bookOf s (x ∷ xs))
-  state-next f = f .next ∙ ap (λ (o : Out Tracker). o .next) stepped
-
-state : {s : Settings} {xs : List Seen} {t : Tracker} → Told-by s xs t → t ≡ bookState s (bookOf s xs)
+state : {s : Settings} {xs : List Event} {t : Tracker} → Told-by s xs t → t ≡ bookState s (bookOf s xs)
 state {s} (making m) = m .fresh ∙ fresh-state s
-state {s} (frame {xs} {t} r x f) = state-next s (in-range r) xs x t (state r) f
+state {s} (telling {xs} {t} r x f) = gave s (in-range r) xs x t (state r) f .tracker
 
-answered : {s : Settings} {xs : List Seen} {t : Tracker} → Told-by s xs t → Answered s xs
+answered : {s : Settings} {xs : List Event} {t : Tracker} → Told-by s xs t → Answered s xs
 answered (making m) = tt
-answered {s} (frame {xs} {t} r x f) = (gave s (in-range r) xs x t (state r) f, answered r)
+answered {s} (telling {xs} {t} r x f) = (gave s (in-range r) xs x t (state r) f, answered r)
 
 -- ---- each call's part of the history
 
@@ -161,7 +157,7 @@ pub record Came (b : Book) (input : List Float) (o : Out Book) : Type 0 where
 
 came-full : (s : Settings) (b : Book) (input : List Float) (es : List Entry) (full : Bool) → Came b input (entered s b input es (roundsOf s es input) full)
 came-full s b input es true = record { refused-keeps = λ r e. refl; never-unsound = λ e. let z : _≡_ {A = ℕ} 0 1 = cc in omega arith; inputs = refl }
-came-full s b input es false = record { refused-keeps = λ r e. accepted-refused r e; never-unsound = λ e. accepted-refused UnsoundState e; inputs = refl }
+came-full s b input es false = record { refused-keeps = λ r e. refused-accepted r (sym e); never-unsound = λ e. refused-accepted UnsoundState (sym e); inputs = refl }
 
 not-early : (n : ℕ) (c : Call) → early n c ≡ some UnsoundState → ⊥
 unfolding early
@@ -185,23 +181,23 @@ came : (s : Settings) (b : Book) (c : Call) → Came b (c .input) (enter s b c)
 unfolding enter
 came s b c = came-at s b c (early (b .frames) c) refl
 
-histories : {s : Settings} {xs : List Seen} {t : Tracker} → Told-by s xs t → Histories s xs
+histories : {s : Settings} {xs : List Event} {t : Tracker} → Told-by s xs t → Histories s xs
 histories (making m) = tt
-histories {s} (frame {xs} {t} r x f) =
-    let g : Gave x (bookReply s xs x) = gave s (in-range r) xs x t (state r) f in
+histories {s} (telling {xs} {t} r x f) =
+    let g : Gave x (bookReply s xs x) (bookState s (bookOf s (frame x ∷ xs))) = gave s (in-range r) xs x t (state r) f in
     let k : Came (bookOf s xs) (x .input) (enter s (bookOf s xs) (callSeen x)) = came s (bookOf s xs) (callSeen x) in (
       record {
         refused-keeps = λ q e. k .refused-keeps q (sym (g .outcome) ∙ e);
-        grown = enter-grown s (bookOf s xs) (callSeen x);
+        grown = λ e. enter-grown s (bookOf s xs) (callSeen x) (laws s (in-range r) xs) (sym (g .outcome) ∙ e);
         never-unsound = λ e. k .never-unsound (sym (g .outcome) ∙ e);
       },
       histories r,
     )
 
-inputs-alike : {s : Settings} {xs : List Seen} {t : Tracker} → Told-by s xs t → bookOf s xs .past ≡ acceptedInputs xs
+inputs-alike : {s : Settings} {xs : List Event} {t : Tracker} → Told-by s xs t → bookOf s xs .past ≡ acceptedInputs xs
 inputs-alike (making m) = refl
-inputs-alike {s} (frame {xs} {t} r x f) =
-    let g : Gave x (bookReply s xs x) = gave s (in-range r) xs x t (state r) f in
+inputs-alike {s} (telling {xs} {t} r x f) =
+    let g : Gave x (bookReply s xs x) (bookState s (bookOf s (frame x ∷ xs))) = gave s (in-range r) xs x t (state r) f in
     came s (bookOf s xs) (callSeen x) .inputs ∙ ap₂ (λ (o : Outcome) (l : List (List Float)). withInput o (x .input) l) (sym (g .outcome)) (inputs-alike r)
 
 -- ---- what the laws say of a frame and place
@@ -291,7 +287,7 @@ ids-of : (s : Settings) (es : List Entry) → map (λ (u : Tracked). u .id) (map
 unfolding trackOf
 ids-of s es = map-map (λ (u : Tracked). u .id) (trackOf s) es
 
-of-run : (s : Settings) (xs : List Seen) (t : Tracker) → Run s xs t → Holds s xs t (bookOf s xs)
+of-run : (s : Settings) (xs : List Event) (t : Tracker) → Run s xs t → Holds s xs t (bookOf s xs)
 of-run s xs t run =
     let r : Told-by s xs t = told-by run in
     let b : Book = bookOf s xs in
@@ -315,6 +311,10 @@ of-run s xs t run =
       overlaps = all-mem (λ (x : Entry). Overlapped s (x .id) (x .birth) (x .lines)) (b .entries) (ok .overlapped);
       ids = ok .in-sequence;
       status = all-mem (λ (x : Entry). Because s x (x .status)) (b .entries) (ok .caused);
+      lived = all-mem (LivedEntry s) (b .entries) (ok .lived);
+      spans = λ e m. all-mem (Spanned (b .frames)) (b .entries) (ok .spanned) e m .0;
+      line-frames = λ e m. all-mem (Spanned (b .frames)) (b .entries) (ok .spanned) e m .1;
+      whole = same;
       live-ids = ap (map (λ (u : Tracked). u .id)) held ∙ ids-of s (live (b .entries));
       frames = ap (λ (u : Tracker). u .frames) same ∙ frames-of s b;
       frames-answered = sym (ok .counted) ∙ ap length i;
@@ -362,15 +362,15 @@ module _ (t : Tracker) (b : Brought) where
   abbrev gone-in : lent-call.Exit noLifetimes₄
   gone-in = (ref (answer .tracker), (ref (b .input), (ref (boxesAfter reply (b .boxes)), (ref (idsAfter reply (b .ids)), tt))))
 
-  once : {s : Settings} {xs : List Seen} → Run s xs t → (way : Bool) → (x : Seen) × Run s (x ∷ xs) (answer .tracker) × (broughtTo x ≡ record { in-place = way; input = b .input; boxes = b .boxes; ids = b .ids })
-  once r false = (seenOf noLifetimes asked answer gone, called r noLifetimes asked answer gone answer-to refl, refl)
-  once r true = (seenIn noLifetimes₄ asked-in told gone-in, lent r noLifetimes₄ asked-in told gone-in answer-to refl, refl)
+  once : {s : Settings} {xs : List Event} → Run s xs t → (way : Bool) → (x : Event) × Run s (x ∷ xs) (answer .tracker) × (broughtTo x ≡ record { in-place = way; input = b .input; boxes = b .boxes; ids = b .ids })
+  once r false = (frame (seenOf noLifetimes asked answer gone), called r noLifetimes asked answer gone answer-to refl, refl)
+  once r true = (frame (seenIn noLifetimes₄ asked-in told gone-in), lent r noLifetimes₄ asked-in told gone-in answer-to refl, refl)
 
 started : (s : Settings) → inRange s ≡ true → Run s [] (emptyTracker s)
 unfolding madeOf
 started s fine = subst (λ (u : Tracker). Run s [] u) (made-tracker s) (made-with tt (s, tt) (madeOf s) (s, tt) (made-by s (madeOf s) refl) (ap (λ (b : Bool). pick b Accepted (Refused BadSetting)) fine) (made-settings s))
 
-exists : (s : Settings) → inRange s ≡ true → (bs : List Brought) → (xs : List Seen) × (t : Tracker) × Run s xs t × (map broughtTo xs ≡ bs)
+exists : (s : Settings) → inRange s ≡ true → (bs : List Brought) → (xs : List Event) × (t : Tracker) × Run s xs t × (map broughtTo xs ≡ bs)
 exists s fine [] = ([], emptyTracker s, started s fine, refl)
 exists s fine (b ∷ bs) =
     let r = exists s fine bs in

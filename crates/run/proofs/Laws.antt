@@ -33,6 +33,8 @@ at-first s = record {
   placed = tt;
   genuine = tt;
   caused = tt;
+  lived = tt;
+  spanned = tt;
   in-run = omega arith;
   few = omega arith;
   room = omega arith;
@@ -90,7 +92,7 @@ over-opened s n i (o ∷ os) = (tt, over-opened s n (suc i) os)
 -- a closed entry has its cause
 abbrev Shut : Settings → Entry → Status → Type 0
 Shut s e open′ = Unit {0}
-Shut s e broken = breaks s e ≡ true
+Shut s e broken = (breaks s e ≡ true) × (isOld s e ≡ false)
 Shut s e agedOut = isOld s e ≡ true
 
 abbrev pub ShutEntry : Settings → Entry → Type 0
@@ -102,7 +104,7 @@ module _ (s : Settings) where
   shut-break e h = go (e .status) (breaks s e) refl h
     where
       go : (q : Status) (t : Bool) → breaks s e ≡ t → Because s e q → Shut s (withStatus e (closedBy broken q t)) (closedBy broken q t)
-      go open′ true b h = b
+      go open′ true b h = (b, h)
       go open′ false b h = tt
       go broken t b h = h
       go agedOut t b h = h

@@ -4,5 +4,6 @@ pub mod Rules
 pub mod Writing
 pub mod Places
 pub mod Laws
+pub mod Lines
 pub mod Accepted
 pub mod EveryRun

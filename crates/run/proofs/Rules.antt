@@ -18,9 +18,9 @@ use Rattle.frame.specs.declared.Settings.{Settings}
 use Rattle.frame.specs.declared.Tracked.{Tracked}
 use Rattle.frame.specs.State as State
 use Rattle.frame.specs.State.{inRange, blank, stateOf, rising, trackRules, stateRules}
-use Rattle.run.specs.Book.{Entry, Book, Status, open′, broken, agedOut, isOpen, live, withStatus, lineOf, replayed, trackOf}
+use Rattle.run.specs.Book.{Entry, Book, Status, open′, broken, agedOut, isOpen, live, bookState, withStatus, lineOf, replayed, trackOf}
 use Rattle.lapjv_walk.proofs.Cases.{never}
-use Rattle.run.proofs.Sim.{bookState, eight}
+use Rattle.run.proofs.Sim.{eight}
 
 -- a replay is as old as it has lines
 line-age : (dt : ℕ) (l : Replay.Line) (w : Uncut) → Replay.written dt l (predicted w) .age ≡ w .age + 1

@@ -34,7 +34,7 @@ use Rattle.frame.specs.State.{inRange, unitRange, stateOf, stateRules, blank}
 use Rattle.frame.specs.Objects.{Obj, objectsOf}
 use Rattle.frame.specs.Rounds.{View, Grant, Slot, Work, rounds}
 use Rattle.frame.specs.Frame.{Call, reports, Out, early, detectionOr, stepOr, viewOf, trackedView, withTrack, predictTracked, unbroken, predictedTracks, give, giveAll, births, isReported, reportOf, snocIf, reportsOf, isYoung, settled, acceptedFrame, frameAt, frameOf}
-use Rattle.run.specs.Book.{box, Status, open′, broken, agedOut, Entry, Book, lineOf, replayed, trackOf, isOpen, live, closedBy, withStatus, breaks, breakEntry, isOld, ageEntry, viewOfEntry, nextLine, withLine, written, write, opened, entered, roundsOf, enterAt, enter}
+use Rattle.run.specs.Book.{box, Status, open′, broken, agedOut, Entry, Book, lineOf, replayed, trackOf, isOpen, live, bookState, closedBy, withStatus, breaks, breakEntry, isOld, ageEntry, viewOfEntry, nextLine, withLine, written, write, opened, entered, roundsOf, enterAt, enter}
 use Rattle.frame.proofs.Seats.{rounds-length}
 use Rattle.lapjv_walk.proofs.Cases.{and-right}
 
@@ -197,10 +197,6 @@ opened-length n i [] = refl
 opened-length n i (o ∷ os) = ap suc (opened-length n (suc i) os)
 
 -- ---- a call
-
--- the state that a book stands for
-unfoldable pub bookState : Settings → Book → Tracker
-bookState s b = stateOf s (b .frames) (length (b .entries)) (map (trackOf s) (live (b .entries)))
 
 abbrev pub outOf : Settings → Out Book → Out Tracker
 outOf s o = record { reply = o .reply; next = bookState s (o .next) }

@@ -17,6 +17,8 @@ use Rattle.history.specs.Replay as Replay
 use Rattle.history.specs.Replay.{replay, cut}
 use Rattle.frame.specs.declared.Settings.{Settings}
 use Rattle.frame.specs.declared.Tracked.{Tracked}
+use Rattle.frame.specs.declared.Tracker.{Tracker}
+use Rattle.frame.specs.State.{stateOf}
 use Rattle.frame.specs.Objects.{Obj, objectsOf}
 use Rattle.frame.specs.Rounds.{View, Grant, Slot, Work, rounds}
 use Rattle.frame.specs.Frame.{Call, refused, reports, Out, early, hasNan, detectionOr, stepOr, reportsOf}
@@ -80,6 +82,10 @@ isOpen agedOut = false
 -- open entries are the live tracks
 abbrev pub live : List Entry → List Entry
 live es = keep (λ (e : Entry). isOpen (e .status)) es
+
+-- the state that a book stands for: the run's settings, the frames, the ids issued, and the tracks of the live entries
+unfoldable pub bookState : Settings → Book → Tracker
+bookState s b = stateOf s (b .frames) (length (b .entries)) (map (trackOf s) (live (b .entries)))
 
 -- an open entry closes where the test passes; a closed one stays as it is
 abbrev pub closedBy : Status → Status → Bool → Status

@@ -11,7 +11,7 @@ use Rattle.lists.specs.Lists.{upFrom, All}
 use Rattle.frame.specs.declared.Settings.{Settings}
 use Rattle.frame.specs.Objects.{detectionAt, firstScore, spareScore}
 use Rattle.run.specs.Book.{Stamped, Entry, Book, live}
-use Rattle.run.specs.Claim.{inputOf, timesWritten, boxesOf, boxesInFrame, Overlapped, Because}
+use Rattle.run.specs.Claim.{inputOf, timesWritten, boxesOf, boxesInFrame, Overlapped, Spans, LineFrames, Because, Lived}
 
 -- the score of the object at place p
 abbrev pub scoreAt : List Float → ℕ → Float
@@ -48,6 +48,8 @@ pub record Laws (s : Settings) (b : Book) : Type 0 where
   pub placed : Placed s (b .entries) (b .past)
   pub genuine : All (λ e. All (Genuine (b .past)) (boxesOf (e .birth) (e .lines))) (b .entries)
   pub caused : All (λ e. Because s e (e .status)) (b .entries)
+  pub lived : All (λ e. Lived s (e .id) (e .birth) (e .lines)) (b .entries)
+  pub spanned : All (λ e. Spans (b .frames) e (e .status) × LineFrames (e .birth) (e .lines)) (b .entries)
   pub in-run : b .frames ≤ 1000000
   pub few : length (b .entries) ≤ 64 * b .frames
   pub room : length (live (b .entries)) ≤ 64

@@ -32,8 +32,8 @@ use Rattle.frame.specs.State.{inRange}
 use Rattle.frame.specs.Objects.{detectionAt, firstScore, spareScore}
 use Rattle.frame.specs.Frame.{Call, Reply, boxesAfter, idsAfter}
 use Rattle.frame.specs.Contract.{outcomeOf, reportsIn, callOf}
-use Rattle.run.specs.Book.{Stamped, Entry, Book, noneYet, live, trackOf, enter}
-use Rattle.run.specs.Claim.{inputOf, timesWritten, boxesOf, boxesInFrame, Overlapped, Because, Grown}
+use Rattle.run.specs.Book.{Stamped, Entry, Book, noneYet, live, trackOf, bookState, enter}
+use Rattle.run.specs.Claim.{inputOf, timesWritten, boxesOf, boxesInFrame, Overlapped, Spans, LineFrames, Because, Lived, Grown}
 use Rattle.run.specs.Laws.{scoreAt}
 use Rattle.run.specs.Lent as lent-call
 
@@ -73,68 +73,74 @@ seenIn κs a r e = record {
   ids-left = now (e .1 .1 .1 .0);
 }
 
+-- what stands in the list of a run: a frame call
+pub data Event : Type 0 where
+  frame : Seen → Event
+
 -- A run, newest call first, by the functions' own contracts: `Learnt` is what a caller learns of a call. It starts from what either making call returned with
 -- its acceptance; each call, by value or in place, gets the tracker that the last one returned or left.
-pub data Run (s : Settings) : List Seen → Tracker → Type 0 where
+pub data Run (s : Settings) : List Event → Tracker → Type 0 where
   made-new : (κs : Lfts 0) (a : Dens κs new-call.ps) (m : Made) (e : AtExit (endedOf 0 new-call.ps new-call.r) κs) → new.Learnt κs a m e → m .outcome ≡ Accepted → m .tracker .settings ≡ s → Run s [] (m .tracker)
   made-with : (κs : Lfts 0) (a : Dens κs with-call.ps) (m : Made) (e : AtExit (endedOf 0 with-call.ps with-call.r) κs) → with-settings.Learnt κs a m e → m .outcome ≡ Accepted → m .tracker .settings ≡ s → Run s [] (m .tracker)
-  called : {xs : List Seen} {t : Tracker} → Run s xs t → (κs : Lfts 3) (a : Dens κs frame-call.ps) (r : Answer) (e : AtExit (endedOf 3 frame-call.ps frame-call.r) κs) → update.Learnt κs a r e → a .0 ≡ t → Run s (seenOf κs a r e ∷ xs) (r .tracker)
-  lent : {xs : List Seen} {t : Tracker} → Run s xs t → (κs : Lfts 4) (a : lent-call.Dens κs) (r : Told) (e : lent-call.Exit κs) → lent-call.Learnt κs a r e → now (a .0) ≡ t → Run s (seenIn κs a r e ∷ xs) (now (e .0))
+  called : {xs : List Event} {t : Tracker} → Run s xs t → (κs : Lfts 3) (a : Dens κs frame-call.ps) (r : Answer) (e : AtExit (endedOf 3 frame-call.ps frame-call.r) κs) → update.Learnt κs a r e → a .0 ≡ t → Run s (frame (seenOf κs a r e) ∷ xs) (r .tracker)
+  lent : {xs : List Event} {t : Tracker} → Run s xs t → (κs : Lfts 4) (a : lent-call.Dens κs) (r : Told) (e : lent-call.Exit κs) → lent-call.Learnt κs a r e → now (a .0) ≡ t → Run s (frame (seenIn κs a r e) ∷ xs) (now (e .0))
 
 -- ---- the book of the run, from the settings, the inputs and the buffers' lengths alone
 
 abbrev pub callSeen : Seen → Call
 callSeen x = callOf (x .input) (x .boxes) (x .ids)
 
-abbrev pub bookOf : Settings → List Seen → Book
+abbrev pub bookOf : Settings → List Event → Book
 bookOf s [] = noneYet
-bookOf s (x ∷ xs) = enter s (bookOf s xs) (callSeen x) .next
+bookOf s (frame x ∷ xs) = enter s (bookOf s xs) (callSeen x) .next
 
 -- the book's answer to x after the calls xs
-abbrev pub bookReply : Settings → List Seen → Seen → Reply
+abbrev pub bookReply : Settings → List Event → Seen → Reply
 bookReply s xs x = enter s (bookOf s xs) (callSeen x) .reply
 
--- a call gave this reply: outcome, count, and both buffers, every cell
-pub record Gave (x : Seen) (r : Reply) : Type 0 where
+-- a call gave this reply and this tracker: outcome, count, both buffers, every cell, and what it returned or left
+pub record Gave (x : Seen) (r : Reply) (t : Tracker) : Type 0 where
   pub outcome : x .answer .outcome ≡ outcomeOf r
   pub count : x .answer .count ≡ length (reportsIn r)
   pub boxes : x .boxes-left ≡ boxesAfter r (x .boxes)
   pub ids : x .ids-left ≡ idsAfter r (x .ids)
+  pub tracker : x .answer .tracker ≡ t
 
-abbrev pub Answered : Settings → List Seen → Type 0
+-- each call gave the book's answer, and its tracker is the state that the book stands for at that point of the list
+abbrev pub Answered : Settings → List Event → Type 0
 Answered s [] = Unit {0}
-Answered s (x ∷ xs) = Gave x (bookReply s xs x) × Answered s xs
+Answered s (frame x ∷ xs) = Gave x (bookReply s xs x) (bookState s (bookOf s (frame x ∷ xs))) × Answered s xs
 
 -- the inputs of the calls answered with reports, newest first
 abbrev pub withInput : Outcome → List Float → List (List Float) → List (List Float)
 withInput Accepted input past = input ∷ past
 withInput (Refused r) input past = past
 
-abbrev pub acceptedInputs : List Seen → List (List Float)
+abbrev pub acceptedInputs : List Event → List (List Float)
 acceptedInputs [] = []
-acceptedInputs (x ∷ xs) = withInput (x .answer .outcome) (x .input) (acceptedInputs xs)
+acceptedInputs (frame x ∷ xs) = withInput (x .answer .outcome) (x .input) (acceptedInputs xs)
 
 -- the input of the n-th call answered with reports, n from 1
-abbrev pub inputAt : List Seen → ℕ → List Float
+abbrev pub inputAt : List Event → ℕ → List Float
 inputAt xs n = inputOf (acceptedInputs xs) n
 
 -- what each call did to the entries before it
 pub record Extended (x : Seen) (before after : Book) : Type 0 where
   -- a refused call closes no entry and writes nothing
   pub refused-keeps : (r : Refusal) → x .answer .outcome ≡ Refused r → after ≡ before
-  -- a further call keeps every entry's id, birth and lines and adds at most one line; closed entries stay as they are
-  pub grown : Grown (before .entries) (after .entries)
+  -- an accepted one keeps every entry's id and birth; an open one gets exactly one line, or breaks; closed entries stay as they are
+  pub grown : x .answer .outcome ≡ Accepted → Grown (after .frames) (before .entries) (after .entries)
   -- no call of a run is refused as unsound
   pub never-unsound : x .answer .outcome ≡ Refused UnsoundState → ⊥
 
-abbrev pub Histories : Settings → List Seen → Type 0
+abbrev pub Histories : Settings → List Event → Type 0
 Histories s [] = Unit {0}
-Histories s (x ∷ xs) = Extended x (bookOf s xs) (bookOf s (x ∷ xs)) × Histories s xs
+Histories s (frame x ∷ xs) = Extended x (bookOf s xs) (bookOf s (frame x ∷ xs)) × Histories s xs
 
 -- ---- the claim
 
-pub record Holds (s : Settings) (xs : List Seen) (t : Tracker) (b : Book) : Type 0 where
-  -- 'each call gave the book's answer, a refusal's number or the reports'
+pub record Holds (s : Settings) (xs : List Event) (t : Tracker) (b : Book) : Type 0 where
+  -- 'each call gave the book's answer, a refusal's number or the reports'; and returned or left the tracker that the book then stands for
   pub answers : Answered s xs
   pub histories : Histories s xs
   -- 'every first-class object of an accepted frame has gone to exactly one track, old or newborn': cell 5p + 4 of the n-th accepted input is the score of place p
@@ -152,8 +158,14 @@ pub record Holds (s : Settings) (xs : List Seen) (t : Tracker) (b : Book) : Type
   pub overlaps : (e : Entry) → List·Memᴰ e (b .entries) → Overlapped s (e .id) (e .birth) (e .lines)
   -- 'ids were issued in sequence and never given again'
   pub ids : map (λ (e : Entry). e .id) (b .entries) ≡ upFrom 0 (length (b .entries))
-  -- 'each now exactly one of live, broken and aged out', for its cause
+  -- 'each now exactly one of live, broken and aged out', for its cause; and each line was written while there was none
   pub status : (e : Entry) → List·Memᴰ e (b .entries) → Because s e (e .status)
+  pub lived : (e : Entry) → List·Memᴰ e (b .entries) → Lived s (e .id) (e .birth) (e .lines)
+  -- a live one has exactly one line for each accepted frame after its birth, a closed one up to its closing; a box's line is its frame's
+  pub spans : (e : Entry) → List·Memᴰ e (b .entries) → Spans (b .frames) e (e .status)
+  pub line-frames : (e : Entry) → List·Memᴰ e (b .entries) → LineFrames (e .birth) (e .lines)
+  -- the tracker whole: count, and the cells past it, too. What follows are readings of it
+  pub whole : t ≡ bookState s b
   -- 'the tracker holds exactly the live ids, in order'
   pub live-ids : map (λ (u : Tracked). u .id) (State.live t) ≡ map (λ (e : Entry). e .id) (live (b .entries))
   -- 'and counts as many frames and issued ids as the book'; the settings are the run's
@@ -173,10 +185,10 @@ pub record Brought : Type 0 where
   pub boxes : List Float
   pub ids : List ℕ
 
-abbrev pub broughtTo : Seen → Brought
-broughtTo x = record { in-place = x .in-place; input = x .input; boxes = x .boxes; ids = x .ids }
+abbrev pub broughtTo : Event → Brought
+broughtTo (frame x) = record { in-place = x .in-place; input = x .input; boxes = x .boxes; ids = x .ids }
 
 -- Demand 3, of every run; and runs exist for all accepted settings and every list of inputs and buffers, each call by value or in place.
 pub record EveryRun : Type 0 where
-  pub holds : (s : Settings) (xs : List Seen) (t : Tracker) → Run s xs t → Holds s xs t (bookOf s xs)
-  pub exists : (s : Settings) → inRange s ≡ true → (bs : List Brought) → (xs : List Seen) × (t : Tracker) × Run s xs t × (map broughtTo xs ≡ bs)
+  pub holds : (s : Settings) (xs : List Event) (t : Tracker) → Run s xs t → Holds s xs t (bookOf s xs)
+  pub exists : (s : Settings) → inRange s ≡ true → (bs : List Brought) → (xs : List Event) × (t : Tracker) × Run s xs t × (map broughtTo xs ≡ bs)
