@@ -158,7 +158,7 @@ pub record Holds (s : Settings) (xs : List Event) (t : Tracker) (b : Book) : Typ
   pub overlaps : (e : Entry) → List·Memᴰ e (b .entries) → Overlapped s (e .id) (e .birth) (e .lines)
   -- 'ids were issued in sequence and never given again'
   pub ids : map (λ (e : Entry). e .id) (b .entries) ≡ upFrom 0 (length (b .entries))
-  -- 'each now exactly one of live, broken and aged out', for its cause; and each line was written while there was none
+  -- 'each now exactly one of live, broken and aged out', for its cause, in the frame after its last line or with it (`histories`); and each line was written while there was no cause
   pub status : (e : Entry) → List·Memᴰ e (b .entries) → Because s e (e .status)
   pub lived : (e : Entry) → List·Memᴰ e (b .entries) → Lived s (e .id) (e .birth) (e .lines)
   -- a live one has exactly one line for each accepted frame after its birth, a closed one up to its closing; a box's line is its frame's
