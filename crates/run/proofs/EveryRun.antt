@@ -35,7 +35,7 @@ use Rattle.frame.specs.State as State
 use Rattle.frame.specs.State.{inRange, stateOf, emptyTracker}
 use Rattle.frame.specs.Objects.{detectionAt}
 use Rattle.frame.specs.Frame.{Call, Reply, Out, early, boxesAfter, idsAfter, frameOf}
-use Rattle.frame.specs.Contract.{madeOf, outcomeOf, reportsIn, callOf, Framed}
+use Rattle.frame.specs.Contract.{numberIn, madeOf, outcomeOf, reportsIn, callOf, Framed}
 use Rattle.frame.proofs.Contract.{made-by, framed-by}
 use Rattle.oc_sort_tracker.specs.New.{defaults}
 use Rattle.run.specs.Book.{Stamped, Line, miss, box, Entry, Book, noneYet, live, bookState, breakEntry, trackOf, roundsOf, entered, enterAt, enter}
@@ -133,6 +133,7 @@ module _ (s : Settings) (fine : inRange s ≡ true) (xs : List Event) (x : Seen)
   pub gave : FramedOf t x → Gave x (bookReply s xs x) (bookState s (bookOf s (frame x ∷ xs)))
   gave f = record {
     outcome = f .outcome ∙ ap outcomeOf replied;
+    number = f .number ∙ ap numberIn replied;
     count = f .count ∙ ap (λ (r : Reply). length (reportsIn r)) replied;
     boxes = f .boxes-after ∙ ap (λ (r : Reply). boxesAfter r (x .boxes)) replied;
     ids = f .ids-after ∙ ap (λ (r : Reply). idsAfter r (x .ids)) replied;

@@ -31,7 +31,7 @@ use Rattle.frame.specs.State as State
 use Rattle.frame.specs.State.{inRange}
 use Rattle.frame.specs.Objects.{detectionAt, firstScore, spareScore}
 use Rattle.frame.specs.Frame.{Call, Reply, boxesAfter, idsAfter}
-use Rattle.frame.specs.Contract.{outcomeOf, reportsIn, callOf}
+use Rattle.frame.specs.Contract.{toldOf, numberIn, outcomeOf, reportsIn, callOf}
 use Rattle.run.specs.Book.{Stamped, Entry, Book, noneYet, live, trackOf, bookState, enter}
 use Rattle.run.specs.Claim.{inputOf, timesWritten, boxesOf, boxesInFrame, Overlapped, Spans, LineFrames, Because, Lived, Grown}
 use Rattle.run.specs.Laws.{scoreAt}
@@ -98,9 +98,11 @@ bookOf s (frame x ∷ xs) = enter s (bookOf s xs) (callSeen x) .next
 abbrev pub bookReply : Settings → List Event → Seen → Reply
 bookReply s xs x = enter s (bookOf s xs) (callSeen x) .reply
 
--- a call gave this reply and this tracker: outcome, count, both buffers, every cell, and what it returned or left
+-- a call gave this reply and this tracker: outcome and number, count, both buffers, every cell, and what it returned or left
 pub record Gave (x : Seen) (r : Reply) (t : Tracker) : Type 0 where
   pub outcome : x .answer .outcome ≡ outcomeOf r
+  -- a refusal's number, 0 with reports
+  pub number : toldOf (x .answer .outcome) ≡ numberIn r
   pub count : x .answer .count ≡ length (reportsIn r)
   pub boxes : x .boxes-left ≡ boxesAfter r (x .boxes)
   pub ids : x .ids-left ≡ idsAfter r (x .ids)
