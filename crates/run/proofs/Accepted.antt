@@ -1,63 +1,41 @@
 -- An accepted frame keeps the laws of the book; so does every call. Assumes nothing.
 use mathlib.Core.Path.{_≡_, refl, sym, ap, ap₂, subst, _∙_}
-use mathlib.Core.Bool.{Bool, true, false, not, _&&_, _||_}
+use mathlib.Core.Bool.{Bool, true, false, not, _&&_}
 use mathlib.Core.Option.{Option, none, some}
 use mathlib.Core.List.{List, [], _∷_, _++_, map}
-use Prim.Native.Nat.{ℕ, suc, _+_, _*_, _/_, _%_, _≤_, _<_}
+use Prim.Native.Nat.{ℕ, suc, _+_, _/_, _≤_}
 use native.Mathlib.Nat.{zero-add}
 use native.Mathlib.Omega.{arith}
-use lib.Dec.{T, eqb, ltb, leb}
+use lib.Dec.{T, ltb}
 use lib.Ieee.{Float}
 use lib.ListN.{length, length-append, length-map}
-use borrow.Author.Tests.{ltb-false, leb-false, lt-ltb, le-ltb, eqb-true}
+use borrow.Author.Tests.{ltb-false, lt-ltb, le-ltb}
 use Rattle.lists.specs.Lists.{pick, sumOf, upFrom, All}
-use Rattle.lists.proofs.Tab.{length-tab}
 use Rattle.lists.proofs.Keep.{keep-append, keep-short}
-use Rattle.lists.proofs.All.{all-map, all-append, all-any, map-append, sum-same, length-sum, upFrom-append}
+use Rattle.lists.proofs.All.{all-map, all-append, all-any, map-append, sum-same, upFrom-append}
 use Rattle.object.specs.declared.Refusal.{Refusal}
-use Rattle.object.specs.declared.Refusal.the-variants.{RaggedFrame, CrowdedFrame, ShortAnswer, RunOver, FullTable}
+use Rattle.object.specs.declared.Refusal.the-variants.{FullTable}
 use Rattle.frame.specs.declared.Settings.{Settings}
 use Rattle.frame.specs.declared.Outcome.{Outcome}
 use Rattle.frame.specs.declared.Outcome.the-variants.{Accepted, Refused}
 use Rattle.frame.specs.State.{inRange, stateRules}
-use Rattle.frame.specs.Objects.{Obj, detectionAt, objectAt, objectsOf, firstScore, spareScore, firstClass, spares}
+use Rattle.frame.specs.Objects.{Obj, detectionAt, objectsOf, firstScore, spareScore, firstClass, spares}
 use Rattle.frame.specs.Rounds.{View, Slot, Work}
 use Rattle.frame.specs.Frame.{Call, early}
 use Rattle.frame.specs.Contract.{outcomeOf}
 use Rattle.run.specs.Book.{broken, agedOut, Entry, Book, isOpen, live, closedBy, breaks, bookState, breakEntry, isOld, ageEntry, viewOfEntry, nextLine, write, opened, entriesAfter, entered, roundsOf, enterAt, enter}
 use Rattle.run.specs.Claim.{timesWritten, boxesOf, Meets, Because, Grown}
 use Rattle.run.specs.Laws.{scoreAt, PlacedAt, Tidy, Laws}
+use Rattle.frame.proofs.Rules.{clear}
 use Rattle.frame.proofs.Seats.{rounds-length, Fairly, slot-weight, GotSlot}
 use Rattle.lapjv_walk.proofs.Cases.{never}
-use Rattle.run.proofs.Rounds.{byteObjects, rounds-views, rounds-fairly, rounds-weight, rounds-left, rounds-from}
+use Rattle.run.proofs.Rounds.{byteObjects, rounds-views, rounds-fairly, rounds-weight, rounds-from}
 use Rattle.run.proofs.Sim.{live-young, write-length, opened-length}
 use Rattle.run.proofs.Rules.{Lined, lawful}
 use Rattle.run.proofs.Writing.{write-all, ids, ids-status, ids-write, ids-opened, hit, live-write-length, live-opened-length, grown-write, born-opened}
 use Rattle.run.proofs.Lines.{all-both, LivedEntry, Fit, fit-break, fit-line, lived-opened, Spanned, BetweenEntry, span-break, span-stays, span-line, span-age, span-opened, all-current}
 use Rattle.run.proofs.Places.{at, sum-places, OfInput, objects-of-input}
 use Rattle.run.proofs.Laws.{Over, over-line, over-opened, tidy-line, tidy-more, tidy-opened, tidy-status, ShutEntry, shut-break, shut-age, shut-line, shut-opened, all-young, GenuineEntry, all-genuine-more, genuine-line, genuine-opened, written-after, hit-now, written-other, written-status, placed-old}
-
--- ---- what the early tests leave
-
-pub record Passed (n : ℕ) (c : Call) : Type 0 where
-  pub whole : length (c .input) % 5 ≡ 0
-  pub few : length (c .input) ≤ 320
-  pub before-end : n < 1000000
-
-some-none : {A : Type 0} (r : Refusal) → some r ≡ none → A
-some-none r e = absurd (let z : _≡_ {A = ℕ} 0 1 = cc in omega arith)
-
-pub early-none : (n : ℕ) (c : Call) → early n c ≡ none → Passed n c
-unfolding early
-early-none n c h = go (eqb (length (c .input) % 5) 0) (ltb (64 * 5) (length (c .input))) (ltb (c .boxes) 256 || ltb (c .ids) 64) (leb 1000000 n) refl refl refl h
-  where
-    go : (x y z v : Bool) → eqb (length (c .input) % 5) 0 ≡ x → ltb (64 * 5) (length (c .input)) ≡ y → leb 1000000 n ≡ v
-        → pick (not x) (some RaggedFrame) (pick y (some CrowdedFrame) (pick z (some ShortAnswer) (pick v (some RunOver) none))) ≡ none → Passed n c
-    go false y z v e₀ e₁ e₂ r = some-none RaggedFrame r
-    go true true z v e₀ e₁ e₂ r = some-none CrowdedFrame r
-    go true false true v e₀ e₁ e₂ r = some-none ShortAnswer r
-    go true false false true e₀ e₁ e₂ r = some-none RunOver r
-    go true false false false e₀ e₁ e₂ r = record { whole = eqb-true _ _ e₀; few = ltb-false (64 * 5) (length (c .input)) e₁; before-end = leb-false 1000000 n e₂ }
 
 pub refused-accepted : {A : Type 0} (r : Refusal) → _≡_ {A = Outcome} (Refused r) Accepted → A
 refused-accepted r e = absurd (let z : _≡_ {A = ℕ} 0 1 = cc in omega arith)
@@ -244,22 +222,15 @@ module _ (s : Settings) (fine : inRange s ≡ true) (b : Book) (c : Call) (ok : 
       ∙ upFrom-append 0 (length (b .entries)) (length (w .left))
       ∙ ap (upFrom 0) (sym length-after)
 
-  few-objects : length os ≤ 64
-  unfolding objectsOf
-  few-objects = omega (arith, length-tab (objectAt (c .input)) (length (c .input) / 5), early-none (b .frames) c passed .few)
-
-  few-born : length (w .left) ≤ 64
-  few-born =
-      let a = rounds-left s fine vs os (λ (o : Obj). 1) in
-      omega (arith, a, few-objects, length-sum (w .left), length-sum (firstClass s os), keep-short (λ (o : Obj). firstScore s (o .det .score)) os)
+  fitting : length (live es) + length (w .left) ≤ 64
+  fitting = ltb-false 64 (length (live es) + length (w .left)) fits
 
   room-after : length (live after) ≤ 64
   room-after =
-      let f : length (live es) + length (w .left) ≤ 64 = ltb-false 64 (length (live es) + length (w .left)) fits in
       let all : List Entry = write n es (w .slots) ++ fresh in
       let l₁ : length (live (map (ageEntry s) all)) ≤ length (live all) = rw (live-young s all) (keep-short (λ e. not (isOld s e)) (live all)) in
       let l₂ : length (live all) ≡ length (live es) + length (w .left) = ap length (keep-append (λ (e : Entry). isOpen (e .status)) (write n es (w .slots)) fresh) ∙ length-append (live (write n es (w .slots))) (live fresh) ∙ ap₂ _+_ (live-write-length n es (w .slots)) (live-opened-length n (length es) (w .left)) in
-      omega arith
+      omega (arith, fitting)
 
   accepted-laws : Laws s (record { frames = n; past = c .input ∷ b .past; entries = after })
   accepted-laws = record {
@@ -276,8 +247,8 @@ module _ (s : Settings) (fine : inRange s ≡ true) (b : Book) (c : Call) (ok : 
     caused = caused-after;
     lived = lived-after;
     spanned = spanned-after;
-    in-run = omega (arith, early-none (b .frames) c passed .before-end);
-    few = omega (arith, length-after, few-born, ok .few);
+    in-run = omega (arith, clear (b .frames) c passed .not-over);
+    few = omega (arith, length-after, fitting, ok .few);
     room = room-after;
     lined = lined-after;
   }

@@ -237,14 +237,6 @@ module _ (s : Settings) (fine : inRange s ≡ true) (vs : List View) (os : List 
         let w₂ = seat-weight f (Meets s 2) 2 m₂ (r₀ .left) (r₁ .slots) (later-seats s 2 (r₁ .slots) (r₀ .left)) in
         (sumOf f (r₁ .left), omega (arith, w₀, w₁, w₂, empty-weight vs), omega (arith, w₁, k₁))
 
-    pub rounds-left : sumOf f (rounds s vs os .left) ≤ sumOf f (firstClass s os)
-    unfolding rounds firstRound laterRound
-    rounds-left =
-        let w₀ = seat-weight f (Meets s 0) 0 m₀ (firstClass s os) (map emptySlot vs) (first-seats s fine vs (firstClass s os)) in
-        let w₂ = seat-weight f (Meets s 2) 2 m₂ (r₀ .left) (r₁ .slots) (later-seats s 2 (r₁ .slots) (r₀ .left)) in
-        let k₂ = seat-keeps f (Meets s 2) 2 m₂ (r₀ .left) (r₁ .slots) (later-seats s 2 (r₁ .slots) (r₀ .left)) in
-        omega (arith, w₀, w₂, k₂, empty-weight vs)
-
   -- the rounds hand out only what they are given
   module _ (P : Obj → Type 0) where
     empty-got : (us : List View) → All (GotSlot P) (map emptySlot us)
