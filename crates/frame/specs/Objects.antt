@@ -19,17 +19,17 @@ pub record Obj : Type 0 where
 unfoldable pub detectionAt : List Float → ℕ → Detection
 unfolding xyxyOf
 detectionAt input p =
-    let corner = xyxyOf (record {
+    let xyxy = xyxyOf (record {
       x = getD input (5 * p) nan;
       y = getD input (5 * p + 1) nan;
       width = getD input (5 * p + 2) nan;
       height = getD input (5 * p + 3) nan;
     }) in
     record {
-      x1 = getD corner 0 nan;
-      y1 = getD corner 1 nan;
-      x2 = getD corner 2 nan;
-      y2 = getD corner 3 nan;
+      x1 = getD xyxy 0 nan;
+      y1 = getD xyxy 1 nan;
+      x2 = getD xyxy 2 nan;
+      y2 = getD xyxy 3 nan;
       score = getD input (5 * p + 4) nan;
     }
 
