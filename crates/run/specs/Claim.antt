@@ -82,8 +82,8 @@ Overlapped s id b (box k o ∷ ls) = Meets s k (o .obj) (viewOfEntry s (asBefore
 abbrev pub lastFrame : Entry → ℕ
 lastFrame e = e .birth .frame + length (e .lines)
 
--- After n accepted frames: a live entry has exactly one line for each after its birth's. A closed one has them up to its closing: one that aged out with the frame
--- that closed it, one that broke without.
+-- After n accepted frames: a live entry has exactly one line for each frame after its birth's. A closed one has them up to its closing; the frame that closed it has
+-- one if it aged out, and none if it broke.
 abbrev pub Spans : ℕ → Entry → Status → Type 0
 Spans n e open′ = lastFrame e ≡ n
 Spans n e broken = lastFrame e < n
