@@ -1,6 +1,6 @@
 -- An accepted frame keeps the laws of the book; so does every call. Assumes nothing.
 use mathlib.Core.Path.{_≡_, refl, sym, ap, ap₂, subst, _∙_}
-use mathlib.Core.Bool.{Bool, true, false, not, _&&_}
+use mathlib.Core.Bool.{Bool, true, false, _&&_}
 use mathlib.Core.Option.{Option, none, some}
 use mathlib.Core.List.{List, [], _∷_, _++_, map}
 use Prim.Native.Nat.{ℕ, suc, _+_, _/_, _≤_}
@@ -9,33 +9,30 @@ use native.Mathlib.Omega.{arith}
 use lib.Dec.{T, ltb}
 use lib.Ieee.{Float}
 use lib.ListN.{length, length-append, length-map}
-use borrow.Author.Tests.{ltb-false, lt-ltb, le-ltb}
+use borrow.Author.Tests.{lt-ltb, le-ltb}
 use Rattle.lists.specs.Lists.{pick, sumOf, upFrom, All}
-use Rattle.lists.proofs.Keep.{keep-append, keep-short}
 use Rattle.lists.proofs.All.{all-map, all-append, all-any, map-append, sum-same, upFrom-append}
 use Rattle.object.specs.declared.Refusal.{Refusal}
 use Rattle.object.specs.declared.Refusal.the-variants.{FullTable}
 use Rattle.frame.specs.declared.Settings.{Settings}
 use Rattle.frame.specs.declared.Outcome.{Outcome}
 use Rattle.frame.specs.declared.Outcome.the-variants.{Accepted, Refused}
-use Rattle.frame.specs.State.{inRange, stateRules}
+use Rattle.frame.specs.State.{inRange}
 use Rattle.frame.specs.Objects.{Obj, detectionAt, objectsOf, firstScore, spareScore, firstClass, spares}
 use Rattle.frame.specs.Rounds.{View, Slot, Work}
 use Rattle.frame.specs.Frame.{Call, early}
 use Rattle.frame.specs.Contract.{outcomeOf}
-use Rattle.run.specs.Book.{broken, agedOut, Entry, Book, isOpen, live, closedBy, breaks, bookState, breakEntry, isOld, ageEntry, viewOfEntry, nextLine, write, opened, entriesAfter, entered, roundsOf, enterAt, enter}
+use Rattle.run.specs.Book.{broken, agedOut, Entry, Book, live, closedBy, breaks, breakEntry, isOld, ageEntry, viewOfEntry, nextLine, write, opened, entriesAfter, entered, roundsOf, enterAt, enter}
 use Rattle.run.specs.Claim.{timesWritten, boxesOf, Meets, Because, Grown}
 use Rattle.run.specs.Laws.{scoreAt, PlacedAt, Tidy, Laws}
-use Rattle.frame.proofs.Rules.{clear}
 use Rattle.frame.proofs.Seats.{rounds-length, Fairly, slot-weight, GotSlot}
 use Rattle.lapjv_walk.proofs.Cases.{never}
 use Rattle.run.proofs.Rounds.{byteObjects, rounds-views, rounds-fairly, rounds-weight, rounds-from}
-use Rattle.run.proofs.Sim.{live-young, write-length, opened-length}
-use Rattle.run.proofs.Rules.{Lined, lawful}
-use Rattle.run.proofs.Writing.{write-all, ids, ids-status, ids-write, ids-opened, hit, live-write-length, live-opened-length, grown-write, born-opened}
+use Rattle.run.proofs.Sim.{write-length, opened-length}
+use Rattle.run.proofs.Writing.{write-all, ids, ids-status, ids-write, ids-opened, hit, grown-write, born-opened}
 use Rattle.run.proofs.Lines.{all-both, LivedEntry, Fit, fit-break, fit-line, lived-opened, Spanned, BetweenEntry, span-break, span-stays, span-line, span-age, span-opened, all-current}
 use Rattle.run.proofs.Places.{at, sum-places, OfInput, objects-of-input}
-use Rattle.run.proofs.Laws.{Over, over-line, over-opened, tidy-line, tidy-more, tidy-opened, tidy-status, ShutEntry, shut-break, shut-age, shut-line, shut-opened, all-young, GenuineEntry, all-genuine-more, genuine-line, genuine-opened, written-after, hit-now, written-other, written-status, placed-old}
+use Rattle.run.proofs.Laws.{Over, over-line, over-opened, tidy-line, tidy-more, tidy-opened, tidy-status, ShutEntry, shut-break, shut-age, shut-line, shut-opened, GenuineEntry, all-genuine-more, genuine-line, genuine-opened, written-after, hit-now, written-other, written-status, placed-old}
 
 pub refused-accepted : {A : Type 0} (r : Refusal) → _≡_ {A = Outcome} (Refused r) Accepted → A
 refused-accepted r e = absurd (let z : _≡_ {A = ℕ} 0 1 = cc in omega arith)
@@ -106,8 +103,7 @@ module _ (s : Settings) (input : List Float) (p : ℕ) where
 
 -- ---- an accepted frame
 
-module _ (s : Settings) (fine : inRange s ≡ true) (b : Book) (c : Call) (ok : Laws s b) (passed : early (b .frames) c ≡ none)
-    (fits : ltb 64 (length (live (map (breakEntry s) (b .entries))) + length (roundsOf s (map (breakEntry s) (b .entries)) (c .input) .left)) ≡ false) where
+module _ (s : Settings) (fine : inRange s ≡ true) (b : Book) (c : Call) (ok : Laws s b) where
   abbrev es : List Entry
   es = map (breakEntry s) (b .entries)
 
@@ -182,18 +178,6 @@ module _ (s : Settings) (fine : inRange s ≡ true) (b : Book) (c : Call) (ok : 
       (all-map (GenuineEntry (b .past)) (GenuineEntry (b .past)) (breakEntry s) (λ e h. h) (b .entries) (ok .genuine)))
       (genuine-opened (c .input) (b .past) n this-frame (length es) (w .left) (r .1)))
 
-  lined-after : All (Lined n) after
-  lined-after =
-      all-map (Lined n) (Lined n) (ageEntry s) (λ e h. h) (write n es (w .slots) ++ fresh)
-      (all-append (Lined n) (write n es (w .slots)) fresh
-      (write-all s (Fairly (Meets s)) n (Lined (b .frames)) (Lined n) (λ e c h. omega arith) (λ e a o v f h. omega arith) es (w .slots) slots-views (rounds-fairly s fine vs os)
-      (all-map (Lined (b .frames)) (Lined (b .frames)) (breakEntry s) (λ e h. h) (b .entries) (ok .lined)))
-      (lined-opened (length es) (w .left)))
-    where
-      lined-opened : (i : ℕ) (ls : List Obj) → All (Lined n) (opened n i ls)
-      lined-opened i [] = tt
-      lined-opened i (o ∷ ls) = (omega arith, lined-opened (suc i) ls)
-
   lived-after : All (LivedEntry s) after
   lived-after =
       all-map (LivedEntry s) (LivedEntry s) (ageEntry s) (λ e h. h) (write n es (w .slots) ++ fresh)
@@ -222,16 +206,6 @@ module _ (s : Settings) (fine : inRange s ≡ true) (b : Book) (c : Call) (ok : 
       ∙ upFrom-append 0 (length (b .entries)) (length (w .left))
       ∙ ap (upFrom 0) (sym length-after)
 
-  fitting : length (live es) + length (w .left) ≤ 64
-  fitting = ltb-false 64 (length (live es) + length (w .left)) fits
-
-  room-after : length (live after) ≤ 64
-  room-after =
-      let all : List Entry = write n es (w .slots) ++ fresh in
-      let l₁ : length (live (map (ageEntry s) all)) ≤ length (live all) = rw (live-young s all) (keep-short (λ e. not (isOld s e)) (live all)) in
-      let l₂ : length (live all) ≡ length (live es) + length (w .left) = ap length (keep-append (λ (e : Entry). isOpen (e .status)) (write n es (w .slots)) fresh) ∙ length-append (live (write n es (w .slots))) (live fresh) ∙ ap₂ _+_ (live-write-length n es (w .slots)) (live-opened-length n (length es) (w .left)) in
-      omega (arith, fitting)
-
   accepted-laws : Laws s (record { frames = n; past = c .input ∷ b .past; entries = after })
   accepted-laws = record {
     counted = omega (arith, ok .counted);
@@ -247,32 +221,24 @@ module _ (s : Settings) (fine : inRange s ≡ true) (b : Book) (c : Call) (ok : 
     caused = caused-after;
     lived = lived-after;
     spanned = spanned-after;
-    in-run = omega (arith, clear (b .frames) c passed .not-over);
-    few = omega (arith, length-after, fitting, ok .few);
-    room = room-after;
-    lined = lined-after;
   }
 
 -- ---- every call
 
-entered-laws : (s : Settings) → inRange s ≡ true → (b : Book) (c : Call) → Laws s b → (r : Option Refusal) → early (b .frames) c ≡ r → Laws s (enterAt s b c r .next)
-entered-laws s fine b c ok (some r) h = ok
-entered-laws s fine b c ok none h = go (ltb 64 (length (live es′) + length (roundsOf s es′ (c .input) .left))) refl
+entered-laws : (s : Settings) → inRange s ≡ true → (b : Book) (c : Call) → Laws s b → (r : Option Refusal) → Laws s (enterAt s b c r .next)
+entered-laws s fine b c ok (some r) = ok
+entered-laws s fine b c ok none = go (ltb 64 (length (live es′) + length (roundsOf s es′ (c .input) .left)))
   where
     es′ : List Entry
     es′ = map (breakEntry s) (b .entries)
 
-    go : (full : Bool) → ltb 64 (length (live es′) + length (roundsOf s es′ (c .input) .left)) ≡ full → Laws s (entered s b (c .input) es′ (roundsOf s es′ (c .input)) full .next)
-    go true f = ok
-    go false f = accepted-laws s fine b c ok h f
+    go : (full : Bool) → Laws s (entered s b (c .input) es′ (roundsOf s es′ (c .input)) full .next)
+    go true = ok
+    go false = accepted-laws s fine b c ok
 
 pub kept-laws : (s : Settings) → inRange s ≡ true → (b : Book) (c : Call) → Laws s b → Laws s (enter s b c .next)
 unfolding enter
-kept-laws s fine b c ok = entered-laws s fine b c ok (early (b .frames) c) refl
-
--- the state rules hold before each
-pub never-unsound : (s : Settings) → inRange s ≡ true → (b : Book) → Laws s b → stateRules (bookState s b) ≡ true
-never-unsound s fine b ok = lawful s fine b (ok .in-run) (ok .few) (ok .room) (ok .in-sequence) (ok .lined) (all-young s (b .entries) (ok .caused))
+kept-laws s fine b c ok = entered-laws s fine b c ok (early (b .frames) c)
 
 -- ---- growth
 

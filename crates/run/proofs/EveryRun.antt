@@ -32,10 +32,11 @@ use Rattle.frame.specs.declared.Outcome.the-variants.{Accepted, Refused}
 use Rattle.frame.specs.declared.Answer.{Answer}
 use Rattle.frame.specs.declared.Made.{Made}
 use Rattle.frame.specs.State as State
-use Rattle.frame.specs.State.{inRange, stateOf, emptyTracker}
+use Rattle.frame.specs.State.{inRange, stateOf, emptyTracker, stateRules}
 use Rattle.frame.specs.Objects.{detectionAt}
 use Rattle.frame.specs.Frame.{Call, Reply, Out, early, boxesAfter, idsAfter, frameOf}
 use Rattle.frame.specs.Contract.{numberIn, madeOf, outcomeOf, reportsIn, callOf, Framed}
+use Rattle.frame.proofs.Rules.{state-rules}
 use Rattle.frame.proofs.Contract.{made-by, framed-by}
 use Rattle.oc_sort_tracker.specs.New.{defaults}
 use Rattle.run.specs.Book.{Stamped, Line, miss, box, Entry, Book, noneYet, live, bookState, breakEntry, trackOf, roundsOf, entered, enterAt, enter}
@@ -46,7 +47,7 @@ use Rattle.run.specs.Run.{Seen, seenOf, seenIn, Event, frame, Run, made-
 use Rattle.run.proofs.Sim.{outOf, alike, live-state}
 use Rattle.run.proofs.Laws.{at-first}
 use Rattle.run.proofs.Lines.{LivedEntry, Spanned}
-use Rattle.run.proofs.Accepted.{refused-accepted, kept-laws, never-unsound, enter-grown}
+use Rattle.run.proofs.Accepted.{refused-accepted, kept-laws, enter-grown}
 
 -- ---- what the contracts say
 
@@ -114,18 +115,28 @@ laws : (s : Settings) → inRange s ≡ true → (xs : List Event) → Laws s (b
 laws s fine [] = at-first s
 laws s fine (frame x ∷ xs) = kept-laws s fine (bookOf s xs) (callSeen x) (laws s fine xs)
 
+-- ---- no call is told 1: a fresh tracker obeys the state rules, and each frame promises to keep them
+
+fresh-sound : (s : Settings) → inRange s ≡ true → stateRules (emptyTracker s) ≡ true
+unfolding emptyTracker stateOf
+fresh-sound s fine = state-rules (emptyTracker s) (record { in-range = fine; frames = omega arith; issued = omega arith; count = omega arith; ids = refl; each = refl })
+
+stays-sound : {s : Settings} {xs : List Event} {t : Tracker} → Told-by s xs t → stateRules t ≡ true
+stays-sound {s} (making m) = subst (λ (u : Tracker). stateRules u ≡ true) (sym (m .fresh)) (fresh-sound s (m .fine))
+stays-sound (telling r x f) = subst (λ (u : Tracker). stateRules u ≡ true) (sym (f .next)) (f .promises .sound (stays-sound r))
+
 -- ---- the tracker is the state that the book stands for
 
 fresh-state : (s : Settings) → emptyTracker s ≡ bookState s noneYet
 unfolding emptyTracker bookState
 fresh-state s = refl
 
-module _ (s : Settings) (fine : inRange s ≡ true) (xs : List Event) (x : Seen) (t : Tracker) (same : t ≡ bookState s (bookOf s xs)) where
+module _ (s : Settings) (fine : inRange s ≡ true) (xs : List Event) (x : Seen) (t : Tracker) (same : t ≡ bookState s (bookOf s xs)) (obeys : stateRules t ≡ true) where
   abbrev b : Book
   b = bookOf s xs
 
   stepped : frameOf t (callSeen x) ≡ outOf s (enter s b (callSeen x))
-  stepped = ap (λ (u : Tracker). frameOf u (callSeen x)) same ∙ alike s fine b (callSeen x) (never-unsound s fine b (laws s fine xs))
+  stepped = ap (λ (u : Tracker). frameOf u (callSeen x)) same ∙ alike s fine b (callSeen x) (subst (λ (u : Tracker). stateRules u ≡ true) same obeys)
 
   replied : frameOf t (callSeen x) .reply ≡ bookReply s xs x
   replied = ap (λ (o : Out Tracker). o .reply) stepped
@@ -142,11 +153,11 @@ module _ (s : Settings) (fine : inRange s ≡ true) (xs : List Event) (x : Seen)
 
 state : {s : Settings} {xs : List Event} {t : Tracker} → Told-by s xs t → t ≡ bookState s (bookOf s xs)
 state {s} (making m) = m .fresh ∙ fresh-state s
-state {s} (telling {xs} {t} r x f) = gave s (in-range r) xs x t (state r) f .tracker
+state {s} (telling {xs} {t} r x f) = gave s (in-range r) xs x t (state r) (stays-sound r) f .tracker
 
 answered : {s : Settings} {xs : List Event} {t : Tracker} → Told-by s xs t → Answered s xs
 answered (making m) = tt
-answered {s} (telling {xs} {t} r x f) = (gave s (in-range r) xs x t (state r) f, answered r)
+answered {s} (telling {xs} {t} r x f) = (gave s (in-range r) xs x t (state r) (stays-sound r) f, answered r)
 
 -- ---- each call's part of the history
 
@@ -185,7 +196,7 @@ came s b c = came-at s b c (early (b .frames) c) refl
 histories : {s : Settings} {xs : List Event} {t : Tracker} → Told-by s xs t → Histories s xs
 histories (making m) = tt
 histories {s} (telling {xs} {t} r x f) =
-    let g : Gave x (bookReply s xs x) (bookState s (bookOf s (frame x ∷ xs))) = gave s (in-range r) xs x t (state r) f in
+    let g : Gave x (bookReply s xs x) (bookState s (bookOf s (frame x ∷ xs))) = gave s (in-range r) xs x t (state r) (stays-sound r) f in
     let k : Came (bookOf s xs) (x .input) (enter s (bookOf s xs) (callSeen x)) = came s (bookOf s xs) (callSeen x) in (
       record {
         refused-keeps = λ q e. k .refused-keeps q (sym (g .outcome) ∙ e);
@@ -198,7 +209,7 @@ histories {s} (telling {xs} {t} r x f) =
 inputs-alike : {s : Settings} {xs : List Event} {t : Tracker} → Told-by s xs t → bookOf s xs .past ≡ acceptedInputs xs
 inputs-alike (making m) = refl
 inputs-alike {s} (telling {xs} {t} r x f) =
-    let g : Gave x (bookReply s xs x) (bookState s (bookOf s (frame x ∷ xs))) = gave s (in-range r) xs x t (state r) f in
+    let g : Gave x (bookReply s xs x) (bookState s (bookOf s (frame x ∷ xs))) = gave s (in-range r) xs x t (state r) (stays-sound r) f in
     came s (bookOf s xs) (callSeen x) .inputs ∙ ap₂ (λ (o : Outcome) (l : List (List Float)). withInput o (x .input) l) (sym (g .outcome)) (inputs-alike r)
 
 -- ---- what the laws say of a frame and place

@@ -5,20 +5,19 @@ use mathlib.Core.Option.{Option, none, some}
 use mathlib.Core.List.{List, [], _∷_, _++_, map}
 use Prim.Native.Nat.{ℕ, suc, _+_, _/_, _≤_, _<_}
 use native.Mathlib.Omega.{arith}
-use lib.Dec.{T, eqb, leb}
+use lib.Dec.{eqb}
 use lib.Ieee.{Float}
 use lib.ListN.{length}
-use borrow.Author.Tests.{leb-true, eqb-true, eq-eqb, ne-eqb, not-false}
+use borrow.Author.Tests.{eqb-true, eq-eqb, ne-eqb}
 use Rattle.lists.specs.Lists.{pick, sumOf, All}
 use Rattle.lists.proofs.All.{all-map, all-any, sum-append, sum-map, sum-zero}
 use Rattle.frame.specs.declared.Settings.{Settings}
 use Rattle.frame.specs.Objects.{Obj, detectionAt}
 use Rattle.frame.specs.Rounds.{View, Grant, Slot, Work}
-use Rattle.run.specs.Book.{Stamped, Line, Status, open′, broken, agedOut, Entry, noneYet, isOpen, live, closedBy, withStatus, replayed, breaks, breakEntry, isOld, ageEntry, viewOfEntry, nextLine, withLine, write, opened, entriesAfter}
+use Rattle.run.specs.Book.{Stamped, Line, Status, open′, broken, agedOut, Entry, noneYet, live, closedBy, withStatus, breaks, breakEntry, isOld, ageEntry, viewOfEntry, nextLine, withLine, write, opened, entriesAfter}
 use Rattle.run.specs.Claim.{inputOf, inEntry, timesWritten, boxesOf, ofFrame, lineOfFrame, boxesInFrame, Meets, Overlapped, Because}
 use Rattle.run.specs.Laws.{PlacedAt, Placed, Genuine, Tidy, Laws}
 use Rattle.frame.proofs.Seats.{Passed, got-weight, slot-weight, Got}
-use Rattle.run.proofs.Rules.{Young}
 use Rattle.run.proofs.Writing.{hit, count-write, count-opened}
 use Rattle.run.proofs.Places.{at, OfInput}
 
@@ -35,10 +34,6 @@ at-first s = record {
   caused = tt;
   lived = tt;
   spanned = tt;
-  in-run = omega arith;
-  few = omega arith;
-  room = omega arith;
-  lined = tt;
 }
 
 -- ---- one box a frame
@@ -125,19 +120,6 @@ module _ (s : Settings) where
   pub shut-opened : (n i : ℕ) (os : List Obj) → All (ShutEntry s) (opened n i os)
   shut-opened n i [] = tt
   shut-opened n i (o ∷ os) = (tt, shut-opened n (suc i) os)
-
-  young-of : (e : Entry) → Because s e (e .status) → Young s e
-  unfolding isOld
-  young-of e h = go (e .status) h
-    where
-      go : (q : Status) → Because s e q → T (isOpen q) → replayed s e .since ≤ s .«max_age»
-      go open′ h t = leb-true (replayed s e .since) (s .«max_age») (not-false (leb (replayed s e .since) (s .«max_age»)) h)
-      go broken h t = absurd t
-      go agedOut h t = absurd t
-
-pub all-young : (s : Settings) (es : List Entry) → All (λ e. Because s e (e .status)) es → All (Young s) es
-all-young s [] a = tt
-all-young s (e ∷ es) a = (young-of s e (a .0), all-young s es (a .1))
 
 -- ---- genuine boxes
 

@@ -1,6 +1,5 @@
 pub mod Rounds
 pub mod Sim
-pub mod Rules
 pub mod Writing
 pub mod Places
 pub mod Laws

@@ -90,23 +90,6 @@ pub count-opened : (k p n i : ℕ) (os : List Obj) → sumOf (inEntry k p) (open
 count-opened k p n i [] = refl
 count-opened k p n i (o ∷ os) = omega (arith, count-opened k p n (suc i) os)
 
--- ---- how many are live
-
-live-one : (n : ℕ) (e : Entry) (es : List Entry) (q : Status) (ss : List Slot) → ((r : List Slot) → length (live (write n es r)) ≡ length (live es))
-    → length (live (written n q (withStatus e q) ss (λ r. write n es r))) ≡ length (put (isOpen q) (withStatus e q) (live es))
-live-one n e es open′ [] ih = ap suc (ih [])
-live-one n e es open′ (a ∷ ss) ih = ap suc (ih ss)
-live-one n e es broken ss ih = ih ss
-live-one n e es agedOut ss ih = ih ss
-
-pub live-write-length : (n : ℕ) (es : List Entry) (ss : List Slot) → length (live (write n es ss)) ≡ length (live es)
-live-write-length n [] ss = refl
-live-write-length n (e ∷ es) ss = live-one n e es (e .status) ss (live-write-length n es)
-
-pub live-opened-length : (n i : ℕ) (os : List Obj) → length (live (opened n i os)) ≡ length os
-live-opened-length n i [] = refl
-live-opened-length n i (o ∷ os) = ap suc (live-opened-length n (suc i) os)
-
 -- ---- growth
 
 later-open : (n : ℕ) (e f : Entry) → e .status ≡ open′ → f .id ≡ e .id → f .birth ≡ e .birth → Goes n e f (f .status) → Later n e f

@@ -10,7 +10,7 @@ use lib.ListN.{length, getD}
 use Rattle.lists.specs.Lists.{upFrom, All}
 use Rattle.frame.specs.declared.Settings.{Settings}
 use Rattle.frame.specs.Objects.{detectionAt, firstScore, spareScore}
-use Rattle.run.specs.Book.{Stamped, Entry, Book, live}
+use Rattle.run.specs.Book.{Stamped, Entry, Book}
 use Rattle.run.specs.Claim.{inputOf, timesWritten, boxesOf, boxesInFrame, Overlapped, Spans, LineFrames, Because, Lived}
 
 -- the score of the object at place p
@@ -50,7 +50,3 @@ pub record Laws (s : Settings) (b : Book) : Type 0 where
   pub caused : All (λ e. Because s e (e .status)) (b .entries)
   pub lived : All (λ e. Lived s (e .id) (e .birth) (e .lines)) (b .entries)
   pub spanned : All (λ e. Spans (b .frames) e (e .status) × LineFrames (e .birth) (e .lines)) (b .entries)
-  pub in-run : b .frames ≤ 1000000
-  pub few : length (b .entries) ≤ 64 * b .frames
-  pub room : length (live (b .entries)) ≤ 64
-  pub lined : All (λ e. suc (length (e .lines)) ≤ b .frames) (b .entries)
