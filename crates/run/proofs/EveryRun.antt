@@ -37,6 +37,7 @@ use Rattle.frame.specs.Objects.{detectionAt}
 use Rattle.frame.specs.Frame.{Call, Reply, Out, early, boxesAfter, idsAfter, frameOf}
 use Rattle.frame.specs.Contract.{numberIn, madeOf, outcomeOf, reportsIn, callOf, Framed}
 use Rattle.frame.proofs.Rules.{state-rules}
+use Rattle.frame.proofs.StaysSound.{live-of}
 use Rattle.frame.proofs.Contract.{made-by, framed-by}
 use Rattle.oc_sort_tracker.specs.New.{defaults}
 use Rattle.run.specs.Book.{Stamped, Line, miss, box, Entry, Book, noneYet, live, bookState, breakEntry, trackOf, roundsOf, entered, enterAt, enter}
@@ -44,7 +45,7 @@ use Rattle.run.specs.Claim.{inputOf, isAt, inLine, timesWritten, boxesOf
 use Rattle.run.specs.Laws.{PlacedAt, Placed, Genuine, Tidy, Laws}
 use Rattle.run.specs.Lent as lent-call
 use Rattle.run.specs.Run.{Seen, seenOf, seenIn, Event, frame, Run, made-new, made-with, called, lent, Brought, broughtTo, callSeen, bookOf, bookReply, Gave, Answered, withInput, acceptedInputs, inputAt, Histories, Holds, EveryRun}
-use Rattle.run.proofs.Sim.{outOf, alike, live-state}
+use Rattle.run.proofs.Sim.{outOf, alike}
 use Rattle.run.proofs.Laws.{at-first}
 use Rattle.run.proofs.Lines.{LivedEntry, Spanned}
 use Rattle.run.proofs.Accepted.{refused-accepted, kept-laws, enter-grown}
@@ -279,9 +280,9 @@ module _ (s : Settings) (b : Book) (ok : Laws s b) (n p : ℕ) where
 
 -- ---- the claim
 
-live-of : (s : Settings) (b : Book) → State.live (bookState s b) ≡ map (trackOf s) (live (b .entries))
+live-held : (s : Settings) (b : Book) → State.live (bookState s b) ≡ map (trackOf s) (live (b .entries))
 unfolding bookState
-live-of s b = live-state s (b .frames) (length (b .entries)) (map (trackOf s) (live (b .entries)))
+live-held s b = live-of s (b .frames) (length (b .entries)) (map (trackOf s) (live (b .entries)))
 
 frames-of : (s : Settings) (b : Book) → bookState s b .frames ≡ b .frames
 unfolding bookState stateOf
@@ -308,7 +309,7 @@ of-run s xs t run =
     let same : t ≡ bookState s b = state r in
     let i : b .past ≡ acceptedInputs xs = inputs-alike r in
     let at : (n p : ℕ) → PlacedAt s (b .entries) n (inputAt xs n) p = λ n p. subst (λ (l : List (List Float)). PlacedAt s (b .entries) n (inputOf l n) p) i (placed-in s b ok n p) in
-    let held : State.live t ≡ map (trackOf s) (live (b .entries)) = ap State.live same ∙ live-of s b in
+    let held : State.live t ≡ map (trackOf s) (live (b .entries)) = ap State.live same ∙ live-held s b in
     record {
       answers = answered r;
       histories = histories r;

@@ -4,13 +4,12 @@ use mathlib.Core.Bool.{Bool, true, false, not, _&&_, _||_}
 use mathlib.Core.Option.{Option, none, some}
 use mathlib.Core.List.{List, [], _∷_, _++_, map}
 use mathlib.Core.Logic.{_≢_, _⊎_, inl, inr, ⊎-elim}
-use Prim.Native.Nat.{ℕ, zero, suc, _+_, _-_, _≤_}
+use Prim.Native.Nat.{ℕ, zero, suc, _+_, _≤_}
 use native.Mathlib.Nat.{suc-inj}
 use native.Mathlib.Omega.{arith}
 use lib.Dec.{ltb, leb, eqb, leb·zero, eqb·suc-zero}
 use lib.Ieee.{Float, isNan}
-use lib.ListN.{length, replicate, length-append, length-map}
-use lib.Seq.{take-append-seam}
+use lib.ListN.{length, length-append, length-map}
 use borrow.Author.Tests.{leb-true}
 use Rattle.lists.specs.Lists.{pick, put, keep}
 use Rattle.lists.proofs.Keep.{keep-append}
@@ -30,11 +29,12 @@ use Rattle.frame.specs.declared.Settings.{Settings}
 use Rattle.frame.specs.declared.Tracked.{Tracked}
 use Rattle.frame.specs.declared.Tracker.{Tracker}
 use Rattle.frame.specs.State as State
-use Rattle.frame.specs.State.{inRange, unitRange, stateOf, stateRules, blank}
+use Rattle.frame.specs.State.{inRange, unitRange, stateOf, stateRules}
 use Rattle.frame.specs.Objects.{Obj, objectsOf}
 use Rattle.frame.specs.Rounds.{View, Grant, Slot, Work, rounds}
 use Rattle.frame.specs.Frame.{Call, reports, Out, early, detectionOr, stepOr, viewOf, trackedView, withTrack, predictTracked, unbroken, predictedTracks, give, giveAll, births, isReported, reportOf, snocIf, reportsOf, isYoung, settled, acceptedFrame, frameAt, frameOf}
 use Rattle.run.specs.Book.{box, Status, open′, broken, agedOut, Entry, Book, lineOf, replayed, trackOf, isOpen, live, bookState, closedBy, withStatus, breaks, breakEntry, isOld, ageEntry, viewOfEntry, nextLine, withLine, written, write, opened, entered, roundsOf, enterAt, enter}
+use Rattle.frame.proofs.StaysSound.{live-of}
 use Rattle.frame.proofs.Seats.{rounds-length}
 use Rattle.lapjv_walk.proofs.Cases.{and-right}
 
@@ -201,10 +201,6 @@ opened-length n i (o ∷ os) = ap suc (opened-length n (suc i) os)
 abbrev pub outOf : Settings → Out Book → Out Tracker
 outOf s o = record { reply = o .reply; next = bookState s (o .next) }
 
-pub live-state : (s : Settings) (f i : ℕ) (ts : List Tracked) → State.live (stateOf s f i ts) ≡ ts
-unfolding stateOf
-live-state s f i ts = take-append-seam ts (replicate (64 - length ts) blank)
-
 module _ (s : Settings) (fine : inRange s ≡ true) (b : Book) (input : List Float) where
   settled-is : (es : List Entry) (w : Work) (full : Bool) → length (w .slots) ≡ length (live es) → length es ≡ length (b .entries)
       → settled (bookState s b) (map (foretold s fine) (live es)) w full ≡ outOf s (entered s b input es w full)
@@ -254,7 +250,7 @@ module _ (s : Settings) (fine : inRange s ≡ true) (b : Book) (c : Call) where
   accepted-over : acceptedFrame (bookState s b) (c .input) ≡ over (map (foretold s fine) (live es′)) (map (viewOfEntry s) (live es′))
   unfolding bookState stateOf
   accepted-over =
-      ap (λ (ts : List Tracked). over (predictedTracks ts) (map (trackedView s) (predictedTracks ts))) (live-state s (b .frames) (length (b .entries)) (map (trackOf s) (live (b .entries))))
+      ap (λ (ts : List Tracked). over (predictedTracks ts) (map (trackedView s) (predictedTracks ts))) (live-of s (b .frames) (length (b .entries)) (map (trackOf s) (live (b .entries))))
       ∙ ap (λ (ts : List Tracked). over ts (map (trackedView s) ts)) (kept-alike s fine (b .entries))
       ∙ ap (over (map (foretold s fine) (live es′))) foreseen-views
 
