@@ -1,19 +1,13 @@
 -- Of two numbers, what is not below is at or above: so a pair that isn't dropped overlaps by the threshold or more. Assumes nothing.
 use mathlib.Core.Path.{_≡_, refl}
-use mathlib.Core.Bool.{Bool, true, false, _&&_, _||_}
+use mathlib.Core.Bool.{Bool, true, false, _&&_, _||_, true≢false}
 use Prim.Native.Nat.{ℕ, zero, suc, _+_, _*_, _≤_, _<_}
 use native.Mathlib.Omega.{arith}
 use lib.Dec.{T, eqb, ltb, lt→ltb, nltb→le, eqb-refl}
 use lib.Ieee.{Float, nan, inf, fin, lt, le, eq, isNan, up, down, below, level}
 use Rattle.object.specs.declared.Corners.{Corners}
 use Rattle.pair.specs.Overlap.{overlapOf}
-use Rattle.assoc.proofs.NeverNan.{Number, never-nan, absurd-eq}
-
-pub number : (x : Float) → isNan x ≡ false → Number x
-unfolding isNan
-number nan h = absurd (absurd-eq h)
-number (inf s) h = tt
-number (fin s m e) h = tt
+use Rattle.overlap_laws.proofs.Whole.{laws}
 
 T-same : (m : ℕ) (r : Bool) → T r → T (eqb m m && r)
 T-same m r h = go (eqb m m) (eqb-refl m)
@@ -55,20 +49,20 @@ total true false a b h =
     rw (za, zb) tt
 total true true a b h = at-most a b true tt (nltb→le b a (rw h tt)) .1
 
-pub at-or-above : (x y : Float) → Number x → Number y → lt x y ≡ false → T (le y x)
-unfolding lt le eq
-at-or-above nan y p q h = absurd p
-at-or-above (inf s) nan p q h = absurd q
+pub at-or-above : (x y : Float) → isNan x ≡ false → isNan y ≡ false → lt x y ≡ false → T (le y x)
+unfolding lt le eq isNan
+at-or-above nan y p q h = absurd (true≢false p)
+at-or-above (inf s) nan p q h = absurd (true≢false q)
 at-or-above (inf true) (inf true) p q h = tt
-at-or-above (inf true) (inf false) p q h = absurd (absurd-eq h)
+at-or-above (inf true) (inf false) p q h = absurd (true≢false h)
 at-or-above (inf false) (inf true) p q h = tt
 at-or-above (inf false) (inf false) p q h = tt
-at-or-above (inf true) (fin t n d) p q h = absurd (absurd-eq h)
+at-or-above (inf true) (fin t n d) p q h = absurd (true≢false h)
 at-or-above (inf false) (fin t n d) p q h = tt
-at-or-above (fin s m e) nan p q h = absurd q
+at-or-above (fin s m e) nan p q h = absurd (true≢false q)
 at-or-above (fin s m e) (inf true) p q h = tt
-at-or-above (fin s m e) (inf false) p q h = absurd (absurd-eq h)
+at-or-above (fin s m e) (inf false) p q h = absurd (true≢false h)
 at-or-above (fin s m e) (fin t n d) p q h = total s t (m * up e * down d) (n * up d * down e) h
 
 pub kept-pair : (d t : Corners) (θ : Float) → isNan θ ≡ false → lt (overlapOf d t) θ ≡ false → T (le θ (overlapOf d t))
-kept-pair d t θ n h = at-or-above (overlapOf d t) θ (never-nan d t) (number θ n) h
+kept-pair d t θ n h = at-or-above (overlapOf d t) θ (laws .never-nan d t) n h

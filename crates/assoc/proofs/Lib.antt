@@ -1,4 +1,3 @@
-pub mod NeverNan
 pub mod AtOrAbove
 pub mod Counts
 pub mod Matching

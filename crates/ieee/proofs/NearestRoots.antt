@@ -19,7 +19,7 @@ use Rattle.roots.specs.Roots.{root}
 use Rattle.ieee.specs.Sqrt.{magnitude, radicand, rootRounded, sqrtOf}
 use Rattle.roots.proofs.Roots.{sq-le, sq-lt, sq-lt-back, cmp-lt, cmp-gt, root-is}
 use Rattle.ieee.proofs.RootBits.{units-fits}
-use Rattle.ieee.proofs.Grid.{digits, grid, no-tie}
+use Rattle.ieee.proofs.Grid.{digits, units-of, grid, no-tie}
 
 -- ---- the two neighbours of the root, and which of them is nearer than any other value
 
@@ -184,7 +184,7 @@ pub sqrt-nearest : (x : Float) → T (fits binary32 x) → T (positive x) → Ne
 sqrt-nearest x f p =
     let N = magnitude x * 2 ^ 149 in
     let d = digits x f (positive-finite x p) in
-    let n-pos : 0 < magnitude x = lt-of-lt-of-le (mul-pos (d .live p) (pow-pos (d .j))) (le-of-eq (sym (d .is))) in
+    let n-pos : 0 < magnitude x = lt-of-lt-of-le (mul-pos (d .live p) (pow-pos (d .j))) (le-of-eq (sym (units-of x d))) in
     let big : 2 ^ 46 ≤ N = le-trans (lit≤ tt) (mul-le-mul-right (2 ^ 149) n-pos) in
     let top : N < 2 ^ 426 = mul-lt-mul-of-pos-right (d .far) (pow-pos 149) in
     let r = units binary32 false (rounded N big) (k N big) in
@@ -197,5 +197,5 @@ sqrt-nearest x f p =
       live = lt-of-lt-of-le (mul-pos (lt-of-lt-of-le (lit< tt) (rounded-big N big)) (pow-pos (k N big))) (le-of-eq (sym (value-magnitude r false (rounded N big * 2 ^ k N big) v)));
       beside = λ y g h. let c = digits y g h in
           subst (λ (z : ℕ). Beside N z (magnitude y)) (sym (value-magnitude r false (rounded N big * 2 ^ k N big) v))
-          (near N big (magnitude y) (c .m) (c .j) (d .j + 149) (d .m) (c .is) (c .short) (ap (λ (z : ℕ). z * 2 ^ 149) (d .is) ∙ mul-assoc (d .m) (2 ^ (d .j)) (2 ^ 149) ∙ ap (λ (z : ℕ). d .m * z) (sym (pow-add 2 (d .j) 149))) (d .odd (d .live p)) (d .short));
+          (near N big (magnitude y) (c .m) (c .j) (d .j + 149) (d .m) (units-of y c) (c .short) (ap (λ (z : ℕ). z * 2 ^ 149) (units-of x d) ∙ mul-assoc (d .m) (2 ^ (d .j)) (2 ^ 149) ∙ ap (λ (z : ℕ). d .m * z) (sym (pow-add 2 (d .j) 149))) (d .odd (d .live p)) (d .short));
     })

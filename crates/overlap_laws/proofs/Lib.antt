@@ -1,0 +1,9 @@
+pub mod Signed
+pub mod Finite
+pub mod FromZero
+pub mod Sides
+pub mod Union
+pub mod ToOne
+pub mod Exchange
+pub mod Itself
+pub mod Whole
