@@ -1,5 +1,5 @@
 -- Exchanging the boxes gives an equal overlap. Two values are alike if they are the same, or zeros of any signs; every step takes alike to alike, since no step makes more of a zero's sign than another zero.
--- Assumes zero-times.
+-- Assumes nothing.
 use mathlib.Core.Path.{_≡_, refl, sym, ap, _∙_, subst}
 use mathlib.Core.Logic.{_⊎_, inl, inr}
 use mathlib.Core.Bool.{Bool, true, false, not, cond, _&&_, _||_, Bool·beq, true≢false}

@@ -1,4 +1,4 @@
--- What a finite result says of its operands, and a value above zero. Assumes zero-times.
+-- What a finite result says of its operands, and a value above zero. Assumes nothing.
 use mathlib.Core.Path.{_≡_, refl}
 use mathlib.Core.Logic.{_⊎_, inl, inr}
 use mathlib.Core.Bool.{Bool, true, false, cond, Bool·beq}

@@ -1,5 +1,5 @@
 -- An overlap is at least 0, whatever numbers the boxes hold: the common part is never below zero, and where the union is above zero it is finite. So an overlap is no NaN.
--- Assumes zero-times.
+-- Assumes nothing.
 use mathlib.Core.Path.{_≡_, refl, sym, ap, _∙_, subst}
 use mathlib.Core.Logic.{_⊎_, inl, inr}
 use mathlib.Core.Bool.{Bool, true, false, not, cond, _||_}
@@ -179,11 +179,11 @@ div-from-0 (fin s m e) (fin true n d) f p q = absurd q
 div-from-0 (fin s m e) (fin false zero d) f p q = absurd q
 div-from-0 (fin s m e) (fin false (suc n) d) f p q = rw (eqb·suc-zero n, unlike-false s, mul-assoc m (up e) (down d)) (round-from-0 s m (up e * down d) (suc n * up d * down e) p (mul-pos (mul-pos (zero-lt-suc n) (up-pos d)) (down-pos e)))
 
-over-infinity : (x : Float) → T (finite x) → T (le (f32 0) (div binary32 x (inf false)))
+over-infinity-from-0 : (x : Float) → T (finite x) → T (le (f32 0) (div binary32 x (inf false)))
 unfolding div
-over-infinity nan f = absurd f
-over-infinity (inf s) f = absurd f
-over-infinity (fin s m e) f = signed-zero-from-0 (unlike s false)
+over-infinity-from-0 nan f = absurd f
+over-infinity-from-0 (inf s) f = absurd f
+over-infinity-from-0 (fin s m e) f = signed-zero-from-0 (unlike s false)
 
 zero-from-0 : T (le (f32 0) (f32 0))
 unfolding le ofBits
@@ -197,7 +197,7 @@ share-from-0 i S p = go (lt (f32 0) (sub binary32 S i)) (λ h. h)
     go false h = zero-from-0
     go true h = elim (lt-above (sub binary32 S i) (h tt)) [
       | inl q ↦ div-from-0 i (sub binary32 S i) (inter-finite i S p (h tt)) p q
-      | inr e ↦ subst (λ (z : Float). T (le (f32 0) (div binary32 i z))) (sym e) (over-infinity i (inter-finite i S p (h tt)))
+      | inr e ↦ subst (λ (z : Float). T (le (f32 0) (div binary32 i z))) (sym e) (over-infinity-from-0 i (inter-finite i S p (h tt)))
     ]
 
 pub from-0 : (d t : Corners) → T (le (f32 0) (overlapOf d t))

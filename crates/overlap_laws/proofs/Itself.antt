@@ -1,4 +1,4 @@
--- A box with positive sides and an area above 0 and below 2 ^ 127 overlaps itself by exactly 1: the area's double is a value of the format, so the union is the area again. Assumes zero-times.
+-- A box with positive sides and an area above 0 and below 2 ^ 127 overlaps itself by exactly 1: the area's double is a value of the format, so the union is the area again. Assumes nothing.
 use mathlib.Core.Path.{_≡_, refl, sym, ap, _∙_}
 use mathlib.Core.Bool.{Bool, true, false, cond}
 use Prim.Native.Nat.{ℕ, zero, suc, _+_, _-_, _*_, _^_, _≤_, _<_}

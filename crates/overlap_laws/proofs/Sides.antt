@@ -1,4 +1,4 @@
--- One axis: what two boxes have in common there is no longer than either one's side. Assumes zero-times.
+-- One axis: what two boxes have in common there is no longer than either one's side. Assumes nothing.
 use mathlib.Core.Path.{_≡_, refl, sym, _∙_, subst}
 use mathlib.Core.Logic.{inl, inr}
 use mathlib.Core.Bool.{Bool, true, false, not, cond}

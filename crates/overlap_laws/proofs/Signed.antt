@@ -1,4 +1,4 @@
--- Finite values by their sign and their size in units of 1 / l: what a sum, a difference and a comparison make of them. Assumes zero-times.
+-- Finite values by their sign and their size in units of 1 / l: what a sum, a difference and a comparison make of them. Assumes nothing.
 use mathlib.Core.Path.{_≡_, sym, ap, _∙_, subst}
 use Prim.Native.Nat.{ℕ, zero, suc, _+_, _-_, _*_, _/_, _%_, _^_, _≤_, _<_, compare}
 use native.Mathlib.Nat.{le-of-eq, lt-of-lt-of-le, lt-of-le-of-lt, lt-of-not-le, not-le-of-lt, lt-irrefl, mul-lt-mul-of-pos-right, lt-of-mul-lt-mul-right, mul-comm, mul-assoc, mul-right-comm, mul-pos, add-mul, mul-sub, zero-mul, le-of-suc-le-suc}

@@ -1,4 +1,4 @@
--- An overlap of two boxes of f32 is at most 1: the common part is no larger than the union. Assumes zero-times.
+-- An overlap of two boxes of f32 is at most 1: the common part is no larger than the union. Assumes nothing.
 use mathlib.Core.Path.{_≡_, refl, sym, ap, _∙_, subst}
 use mathlib.Core.Logic.{inl, inr}
 use mathlib.Core.Bool.{Bool, true, false, cond, not}
@@ -55,15 +55,15 @@ within-union d t p q pI fU =
     let h = sideOf (d .y1) (d .y2) (t .y1) (t .y2) in
     let A = mul binary32 (xSide d) (ySide d) in
     let B = mul binary32 (xSide t) (ySide t) in
-    let pos = mul-positive w h (side-nonneg (d .x1) (d .x2) (t .x1) (t .x2)) (side-nonneg (d .y1) (d .y2) (t .y1) (t .y2)) pI in
-    let fin = add-finite binary32 A B (sub-finite binary32 (add binary32 A B) (mul binary32 w h) fU .0) in
-    let fd = mul-finite binary32 (xSide d) (ySide d) (fin .0) in
-    let ft = mul-finite binary32 (xSide t) (ySide t) (fin .1) in
-    let x = axis (d .x1) (d .x2) (t .x1) (t .x2) (p .x1) (p .x2) (q .x1) (q .x2) (pos .0) (fd .0) (ft .0) in
-    let y = axis (d .y1) (d .y2) (t .y1) (t .y2) (p .y1) (p .y2) (q .y1) (q .y2) (pos .1) (fd .1) (ft .1) in
+    let both = mul-positive w h (side-nonneg (d .x1) (d .x2) (t .x1) (t .x2)) (side-nonneg (d .y1) (d .y2) (t .y1) (t .y2)) pI in
+    let areas = add-finite binary32 A B (sub-finite binary32 (add binary32 A B) (mul binary32 w h) fU .0) in
+    let fd = mul-finite binary32 (xSide d) (ySide d) (areas .0) in
+    let ft = mul-finite binary32 (xSide t) (ySide t) (areas .1) in
+    let x = axis (d .x1) (d .x2) (t .x1) (t .x2) (p .x1) (p .x2) (q .x1) (q .x2) (both .0) (fd .0) (ft .0) in
+    let y = axis (d .y1) (d .y2) (t .y1) (t .y2) (p .y1) (p .y2) (q .y1) (q .y2) (both .1) (fd .1) (ft .1) in
     no-larger (mul binary32 w h) A B (mul-fits binary32 w h) (mul-fits binary32 (xSide d) (ySide d)) (mul-fits binary32 (xSide t) (ySide t)) pI
-    (mul-mono binary32 w (xSide d) h (ySide d) (pos .0) (x .first) (pos .1) (y .first) (x .in-first) (y .in-first))
-    (mul-mono binary32 w (xSide t) h (ySide t) (pos .0) (x .second) (pos .1) (y .second) (x .in-second) (y .in-second))
+    (mul-mono binary32 w (xSide d) h (ySide d) (both .0) (x .first) (both .1) (y .first) (x .in-first) (y .in-first))
+    (mul-mono binary32 w (xSide t) h (ySide t) (both .0) (x .second) (both .1) (y .second) (x .in-second) (y .in-second))
     fU
 
 -- ---- the share
@@ -94,11 +94,11 @@ div-to-1 (fin false (suc m) e) (fin false (suc n) d) f p q k =
     let g : T (positive (fin false (suc m) e)) = lt→ltb 0 (suc m) (zero-lt-suc m) in
     rw (eqb·suc-zero n) (round-to-1 (suc m * up e * down d) (suc n * up d * down e) (mul-pos (mul-pos (zero-lt-suc n) (up-pos d)) (down-pos e)) (le→cross (fin false (suc m) e) (fin false (suc n) d) g q (k g)))
 
-over-infinity : (x : Float) → T (finite x) → T (le (div binary32 x (inf false)) (f32 0x3f80_0000))
+over-infinity-to-1 : (x : Float) → T (finite x) → T (le (div binary32 x (inf false)) (f32 0x3f80_0000))
 unfolding div
-over-infinity nan f = absurd f
-over-infinity (inf s) f = absurd f
-over-infinity (fin s m e) f = signed-zero-to-1 (unlike s false)
+over-infinity-to-1 nan f = absurd f
+over-infinity-to-1 (inf s) f = absurd f
+over-infinity-to-1 (fin s m e) f = signed-zero-to-1 (unlike s false)
 
 zero-to-1 : T (le (f32 0) (f32 0x3f80_0000))
 unfolding le ofBits
@@ -112,7 +112,7 @@ share-to-1 i S p k = go (lt (f32 0) (sub binary32 S i)) (λ h. h)
     go false h = zero-to-1
     go true h = elim (lt-above (sub binary32 S i) (h tt)) [
       | inl q ↦ div-to-1 i (sub binary32 S i) (inter-finite i S p (h tt)) p q (λ g. k g (positive-finite (sub binary32 S i) q))
-      | inr e ↦ subst (λ (z : Float). T (le (div binary32 i z) (f32 0x3f80_0000))) (sym e) (over-infinity i (inter-finite i S p (h tt)))
+      | inr e ↦ subst (λ (z : Float). T (le (div binary32 i z) (f32 0x3f80_0000))) (sym e) (over-infinity-to-1 i (inter-finite i S p (h tt)))
     ]
 
 pub to-1 : (d t : Corners) → OfF32 d → OfF32 t → T (le (overlapOf d t) (f32 0x3f80_0000))

@@ -1,5 +1,5 @@
 -- The common part is no larger than the union: it is no larger than either area, so its double is no larger than their sum.
--- Rounding keeps that, since the double and the common part itself are values of the format. Assumes zero-times.
+-- Rounding keeps that, since the double and the common part itself are values of the format. Assumes nothing.
 use mathlib.Core.Path.{_≡_, refl, sym, ap, _∙_, subst}
 use mathlib.Core.Bool.{Bool, true, false, not}
 use Prim.Native.Nat.{ℕ, suc, _+_, _-_, _*_, _^_, _≤_, _<_}

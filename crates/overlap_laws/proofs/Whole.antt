@@ -1,4 +1,4 @@
--- The laws, all of them. Assumes zero-times.
+-- The laws, all of them. Assumes nothing.
 use mathlib.Core.Path.{refl}
 use lib.Ieee.{isNan, ofBits}
 use Rattle.ieee.specs.Ops.{f32}
