@@ -46,7 +46,8 @@ enum {
     SATINJACKS_SHORT_ANSWER = 5,  /* boxes below 256 floats, or ids below 64 */
     SATINJACKS_RUN_OVER = 6,      /* 1,000,000 frames are counted: make a new tracker */
     SATINJACKS_FULL_TABLE = 7,    /* more than 64 tracks: call with no objects, which ages tracks, or with fewer */
-    SATINJACKS_BAD_MATRIX = 8     /* the assignment's sizes don't agree */
+    SATINJACKS_BAD_MATRIX = 8,    /* the assignment's sizes don't agree */
+    SATINJACKS_COST_OUT_OF_RANGE = 12 /* a whole cost is outside -1,000,000 to 1,000,000 */
 };
 
 typedef struct {
@@ -147,6 +148,14 @@ SatinjacksReply satinjacks_update_lists(uint64_t *wide, float *floats, uint32_t 
  */
 uint64_t satinjacks_assign(size_t n, const double *cost, size_t cost_len,
                            int64_t *x, size_t x_len, int64_t *y, size_t y_len);
+
+/*
+ * The same by whole costs from -1,000,000 to 1,000,000: no one-to-one pairing
+ * has a smaller total. 0, or 8, or 12 for a cost out of range where the sizes
+ * agree: then nothing is written.
+ */
+uint64_t satinjacks_assign_whole(size_t n, const int64_t *cost, size_t cost_len,
+                                 int64_t *x, size_t x_len, int64_t *y, size_t y_len);
 
 /* A tracker's lists; from the tracker's own pointer, since each goes past the field that it begins with. */
 static inline uint64_t *satinjacks_wide(SatinjacksTracker *image)

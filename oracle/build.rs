@@ -40,6 +40,13 @@ const FAULT: Substitution = (
     1,
 );
 
+/// `lapjv.rs` over signed 64-bit numbers (document 02, 2.3), beside the one that the tracker uses.
+const WHOLE: [Substitution; 3] = [
+    ("lapjv.rs", "f64", "i64", 22),
+    ("lapjv.rs", "vec![0.0; n]", "vec![0; n]", 2),
+    ("lapjv.rs", "LARGE: isize = 1000000;", "LARGE: isize = 1_000_000_000_000;", 1),
+];
+
 const IMPORT: &str = "use crate::stand_ins::StandIns;\n";
 
 fn main() {
@@ -57,6 +64,11 @@ fn main() {
         let built = substituted(file, &original) + &appended(file);
         difference += &unified(file, &original, &built);
         fs::write(out.join(file), built).unwrap();
+        if file == "lapjv.rs" {
+            let whole = replaced(file, &original, WHOLE.iter());
+            difference += &unified("lapjv.rs over whole numbers", &original, &whole);
+            fs::write(out.join("whole_lapjv.rs"), whole).unwrap();
+        }
     }
     fs::write(out.join("difference.diff"), &difference).unwrap();
 }
@@ -76,8 +88,12 @@ fn has(feature: &str) -> bool {
 fn substituted(file: &str, original: &str) -> String {
     let floats = FLOATS.iter().filter(|_| !has("PLAIN"));
     let fault = Some(&FAULT).filter(|_| has("FAULT"));
+    replaced(file, original, floats.chain(fault))
+}
+
+fn replaced<'a>(file: &str, original: &str, substitutions: impl Iterator<Item = &'a Substitution>) -> String {
     let mut text = original.to_string();
-    for (_, sought, given, times) in floats.chain(fault).filter(|s| s.0 == file) {
+    for (_, sought, given, times) in substitutions.filter(|s| s.0 == file) {
         assert_eq!(text.matches(sought).count(), *times, "{file}: {sought}");
         text = text.replace(sought, given);
     }

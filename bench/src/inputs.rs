@@ -82,3 +82,10 @@ pub fn costs(n: usize, seed: u64) -> Vec<f64> {
     };
     (0..n * n).map(|k| cost(k, &mut random)).collect()
 }
+
+/// Whole costs of n rows and n columns within a range.
+pub fn whole_costs(n: usize, seed: u64, range: &std::ops::RangeInclusive<i64>) -> Vec<i64> {
+    let mut random = Random::of(seed);
+    let count = (range.end() - range.start() + 1) as usize;
+    (0..n * n).map(|_| range.start() + random.below(count) as i64).collect()
+}

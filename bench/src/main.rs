@@ -4,7 +4,7 @@
 mod inputs;
 mod plot;
 
-use inputs::{costs, frames, is_return, Frame, Kind, TIMED, WARM};
+use inputs::{costs, frames, is_return, whole_costs, Frame, Kind, TIMED, WARM};
 use satinjacks::{Detection, Tracker};
 use std::hint::black_box;
 use std::time::Instant;
@@ -168,6 +168,28 @@ fn assignment(n: usize, repeat: usize) -> Row {
     Row { name: format!("assignment {n} by {n}"), kind: None, count: n, times: times.map(|mut t| median(&mut t)) }
 }
 
+/// The assignment by whole costs and by the same numbers as f64s, nanoseconds.
+fn whole_assignment(n: usize, repeat: usize, range: std::ops::RangeInclusive<i64>) -> [f64; 2] {
+    let mut times: [Vec<u64>; 2] = Default::default();
+    for seed in 0..8 * repeat as u64 {
+        let whole = whole_costs(n, seed, &range);
+        let floats: Vec<f64> = whole.iter().map(|&c| c as f64).collect();
+        let total = |rows: &[i64]| rows.iter().enumerate().map(|(i, &j)| whole[i * n + j as usize]).sum::<i64>();
+        let (mut rows, mut others, mut columns) = ([0i64; 64], [0i64; 64], [0i64; 64]);
+        let mut own = || timed(|| satinjacks::assign_whole(n, black_box(&whole), &mut rows[..n], &mut columns[..n]));
+        let early = (seed % 2 == 0).then(&mut own);
+        let by_floats = || satinjacks::assign(n, black_box(&floats), &mut others[..n], &mut [0; 64][..n]);
+        let (time, answer) = timed(by_floats);
+        answer.expect("sizes agree");
+        times[1].push(time);
+        let (time, answer) = early.unwrap_or_else(own);
+        answer.expect("costs in range");
+        times[0].push(time);
+        assert!(total(&rows[..n]) <= total(&others[..n]), "whole costs {seed}: the f64 assignment is cheaper");
+    }
+    times.map(|mut t| median(&mut t))
+}
+
 /// What the goal says of a row: a ratio of at most 1, or at most 5 us above; nothing of the rows that it does not name.
 fn verdict(row: &Row) -> &'static str {
     let [own, plain, _] = row.times;
@@ -222,6 +244,12 @@ fn main() {
         return;
     }
     show(&assignment(64, repeat));
+    println!("\n| 64 by 64 whole costs | by whole numbers, us | by f64s, us | whole / f64 |");
+    println!("|---|--:|--:|--:|");
+    for (name, range) in [("random, -1,000,000 to 1,000,000", -1_000_000..=1_000_000), ("tied, 0 to 9", 0..=9)] {
+        let [whole, floats] = whole_assignment(64, repeat, range);
+        println!("| {name} | {:.2} | {:.2} | {:.2} |", whole / 1e3, floats / 1e3, whole / floats);
+    }
     for kind in [Kind::Steady, Kind::Crowd] {
         let of = |n: usize| rows.iter().find(|r| r.kind == Some(kind) && r.count == n).map(|r| r.times).expect("a row");
         let grown = |who: usize| format!("{:+.0} us", (of(64)[who] - of(16)[who]) / 1e3);

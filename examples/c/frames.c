@@ -38,5 +38,14 @@ int main(void)
     if (satinjacks_assign(2, cost, 4, x, 2, y, 2) != SATINJACKS_ACCEPTED)
         return 1;
     printf("row 0 takes column %lld, row 1 column %lld\n", (long long)x[0], (long long)x[1]);
+
+    /* by whole costs the pairing is a cheapest one */
+    int64_t units[4] = {-3, 7, 2, 1000001};
+    uint64_t number = satinjacks_assign_whole(2, units, 4, x, 2, y, 2);
+    printf("a cost of %lld: refused with %llu\n", (long long)units[3], (unsigned long long)number);
+    units[3] = 11;
+    if (satinjacks_assign_whole(2, units, 4, x, 2, y, 2) != SATINJACKS_ACCEPTED)
+        return 1;
+    printf("row 0 takes column %lld, row 1 column %lld\n", (long long)x[0], (long long)x[1]);
     return 0;
 }

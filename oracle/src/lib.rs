@@ -47,6 +47,7 @@ original!(error, "error.rs");
 original!(rect, "rect.rs");
 original!(object, "object.rs");
 original!(lapjv, "lapjv.rs");
+original!(whole_lapjv, "whole_lapjv.rs");
 mod oc_sort_tracker {
     original!(assoc, "oc_sort_tracker/assoc.rs");
     original!(kalman_filter, "oc_sort_tracker/kalman_filter.rs");

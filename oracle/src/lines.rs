@@ -12,6 +12,7 @@ use nalgebra::SMatrix;
 pub fn answer(word: &str, words: &mut Words, out: &mut Vec<u8>) -> Result<bool, Fault> {
     match word {
         "lap" => return lap(words, out).map(|_| true),
+        "lapint" => return whole_lap(words, out).map(|_| true),
         "assoc" => return assoc(words, out).map(|_| true),
         "widen" => {
             let x = words.f32()?;
@@ -153,21 +154,51 @@ fn filter(word: &str, words: &mut Words) -> Result<Filter, Fault> {
     Ok(filter.numbers())
 }
 
-fn lap(words: &mut Words, out: &mut Vec<u8>) -> Result<(), Fault> {
+/// `N XLEN YLEN`, and then whether so many costs and lists of these lengths fit.
+fn sizes(words: &mut Words) -> Result<(usize, impl Fn(usize) -> bool), Fault> {
     let (n, rows, columns) = (words.whole()?, words.whole()?, words.whole()?);
-    let costs = words.rest_f64()?;
-    if n == 0 || n > 64 || costs.len() != n * n || rows != n || columns != n {
-        out.extend(b"refused 8\n");
-        return Ok(());
-    }
-    let mut costs: Vec<Vec<f64>> = costs.chunks(n).map(|row| row.to_vec()).collect();
-    let (mut x, mut y) = (vec![-1; n], vec![-1; n]);
-    crate::lapjv::lapjv(&mut costs, &mut x, &mut y).map_err(|_| "the original refused")?;
+    Ok((n, move |costs| (1..=64).contains(&n) && costs == n * n && rows == n && columns == n))
+}
+
+fn square<T: Clone>(n: usize, costs: &[T]) -> Vec<Vec<T>> {
+    costs.chunks(n).map(|row| row.to_vec()).collect()
+}
+
+fn put_pairs(out: &mut Vec<u8>, x: &[isize], y: &[isize]) {
     out.extend(b"ok\nx");
     x.iter().for_each(|&j| put_whole(out, j as usize));
     out.extend(b"\ny");
     y.iter().for_each(|&i| put_whole(out, i as usize));
     out.push(b'\n');
+}
+
+fn lap(words: &mut Words, out: &mut Vec<u8>) -> Result<(), Fault> {
+    let (n, fit) = sizes(words)?;
+    let costs = words.rest_f64()?;
+    if !fit(costs.len()) {
+        out.extend(b"refused 8\n");
+        return Ok(());
+    }
+    let (mut x, mut y) = (vec![-1; n], vec![-1; n]);
+    crate::lapjv::lapjv(&mut square(n, &costs), &mut x, &mut y).map_err(|_| "the original refused")?;
+    put_pairs(out, &x, &y);
+    Ok(())
+}
+
+fn whole_lap(words: &mut Words, out: &mut Vec<u8>) -> Result<(), Fault> {
+    let (n, fit) = sizes(words)?;
+    let costs = words.rest_i64()?;
+    if !fit(costs.len()) {
+        out.extend(b"refused 8\n");
+        return Ok(());
+    }
+    if costs.iter().any(|c| !(-1_000_000..=1_000_000).contains(c)) {
+        out.extend(b"refused 12\n");
+        return Ok(());
+    }
+    let (mut x, mut y) = (vec![-1; n], vec![-1; n]);
+    crate::whole_lapjv::lapjv(&mut square(n, &costs), &mut x, &mut y).map_err(|_| "the original refused")?;
+    put_pairs(out, &x, &y);
     Ok(())
 }
 

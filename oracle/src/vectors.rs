@@ -34,7 +34,8 @@ const EDGES: [u32; 27] = [
     0x7FFF_FFFF,
 ];
 
-pub const KINDS: [&str; 9] = ["floats", "matrices", "lap", "boxes", "filter", "assoc", "states", "calls", "runs"];
+pub const KINDS: [&str; 10] =
+    ["floats", "matrices", "lap", "lapint", "boxes", "filter", "assoc", "states", "calls", "runs"];
 
 /// All lines of a kind.
 pub fn lines(kind: &str, seed: u64) -> Vec<u8> {
@@ -43,6 +44,7 @@ pub fn lines(kind: &str, seed: u64) -> Vec<u8> {
         "floats" => v.floats(),
         "matrices" => v.matrices(),
         "lap" => v.laps(),
+        "lapint" => v.whole_laps(),
         "boxes" => v.boxes(),
         "filter" => v.filters(),
         "assoc" => v.assocs(),
@@ -206,6 +208,71 @@ impl Vectors {
             [(0, 0, 0, 0), (65, 65, 65, 4225), (2, 2, 2, 3), (2, 2, 2, 5), (2, 1, 2, 4), (2, 2, 3, 4)]
         {
             self.lap_line(n, x, y, &vec![1.0; given]);
+        }
+    }
+
+    fn whole_lap_line(&mut self, n: usize, x: usize, y: usize, costs: &[i64]) {
+        self.out.extend(format!("lapint {n} {x} {y}").as_bytes());
+        for c in costs {
+            self.out.extend(format!(" {c}").as_bytes());
+        }
+        self.out.push(b'\n');
+    }
+
+    /// A matrix of whole costs of a kind, n by n; the ends of the range and ties are in most.
+    fn whole_costs(&mut self, n: usize, kind: usize) -> Vec<i64> {
+        const END: i64 = 1_000_000;
+        let r = &mut self.random;
+        let rank: Vec<i64> = (0..2 * n).map(|_| r.below(2001) as i64 - 1000).collect();
+        let cost = |r: &mut Random, i: usize, j: usize| match kind {
+            0 => r.below(2_000_001) as i64 - END,
+            1 => r.below(3) as i64,
+            2 => r.pick(&[END, -END]),
+            3 => r.pick(&[END, -END, 0, END - 1, 1 - END]),
+            4 => rank[i] * rank[n + j],
+            5 if r.once_in(n) => r.below(2) as i64 - END,
+            5 => END - r.below(4) as i64,
+            6 if j <= i => 1000 * r.below(4) as i64 - END,
+            6 => END,
+            7 if j == 0 => -END,
+            7 => r.below(10) as i64 - if i == j { END / 2 } else { 0 },
+            8 => 7,
+            _ => (rank[i] + rank[n + j]) * 400 + r.below(3) as i64,
+        };
+        (0..n * n).map(|q| cost(r, q / n, q % n)).collect()
+    }
+
+    fn whole_laps(&mut self) {
+        const COSTS: usize = 10;
+        for n in (1..=64).filter(|n| n % 8 == 0 || *n < 24 || *n > 62) {
+            let cases = if n <= 9 {
+                3 * COSTS
+            } else if n <= 16 {
+                COSTS
+            } else {
+                3
+            };
+            for case in 0..cases {
+                let kind = if n <= 16 { case } else { case * 3 + n };
+                let costs = self.whole_costs(n, kind % COSTS);
+                self.whole_lap_line(n, n, n, &costs);
+            }
+        }
+        for (n, x, y, given) in
+            [(0, 0, 0, 0), (65, 65, 65, 4225), (2, 2, 2, 3), (2, 2, 2, 5), (2, 1, 2, 4), (2, 2, 3, 4)]
+        {
+            self.whole_lap_line(n, x, y, &vec![1; given]);
+            self.whole_lap_line(n, x, y, &vec![2_000_000; given]);
+        }
+        for cost in [1_000_001, -1_000_001, i64::MAX, i64::MIN, 1_000_000, -1_000_000] {
+            for place in 0..4 {
+                let mut costs = [0; 4];
+                costs[place] = cost;
+                self.whole_lap_line(2, 2, 2, &costs);
+            }
+        }
+        for word in ["9223372036854775808", "-9223372036854775809", "-", "+1", "1.", "", "00000000000000000000"] {
+            self.out.extend(format!("lapint 1 1 1 {word}\n").as_bytes());
         }
     }
 

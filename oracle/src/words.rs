@@ -64,6 +64,15 @@ impl<'a> Words<'a> {
     pub fn rest_f64(&mut self) -> Result<Vec<f64>, Fault> {
         self.0.by_ref().map(|w| bits(w, 16).map(f64::from_bits)).collect()
     }
+
+    /// Signed decimal numbers of at most 19 digits.
+    pub fn rest_i64(&mut self) -> Result<Vec<i64>, Fault> {
+        let held = |w: &str| {
+            let digits = w.strip_prefix('-').unwrap_or(w);
+            digits.len() <= 19 && digits.bytes().all(|b| b.is_ascii_digit())
+        };
+        self.0.by_ref().map(|w| w.parse().ok().filter(|_| held(w)).ok_or(NUMBERS)).collect()
+    }
 }
 
 fn bits(word: &str, digits: usize) -> Result<u64, Fault> {

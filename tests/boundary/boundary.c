@@ -224,7 +224,7 @@ static void take_back(SatinjacksTracker *i)
 
 /* ---- making a tracker */
 
-static unsigned long made[9], assigned[9];
+static unsigned long made[9], assigned[9], planned[3];
 
 static int unit(float x) { return 0 <= x && x <= 1; }
 
@@ -346,6 +346,46 @@ static void assignment(Place *pc, Place *px, Place *py)
             CHECK(0 <= x[k] && x[k] < (int64_t)n && y[x[k]] == (int64_t)k);
     else
         CHECK(memcmp(x, x0, 8 * l) == 0 && memcmp(y, y0, 8 * m) == 0);
+}
+
+/* The same by whole costs, a few of them out of range. Refusal 12 is told apart from others by its place in `planned`: 0, 1 for 8, 2 for 12. */
+static void whole_assignment(Place *pc, Place *px, Place *py)
+{
+    static unsigned char cost0[8 * 66 * 66], x0[8 * 80], y0[8 * 80];
+    size_t n = one_in(4) ? below(66) : below(9);
+    size_t c = near(n * n), l = near(n), m = near(n);
+    int64_t *cost = lay(pc, 8 * c), *x = lay(px, 8 * l), *y = lay(py, 8 * m);
+    if (one_in(16))
+        n = one_in(2) ? (size_t)1 << (32 + below(32)) | (one_in(2) ? n : 0) : (size_t)next();
+    int kind = (int)below(4), held = 1;
+    for (size_t k = 0; k < c; k++)
+        cost[k] = kind == 0 ? below(4) : kind == 1 ? (one_in(2) ? LIMIT : -LIMIT) : (int64_t)below(2 * LIMIT + 1) - LIMIT;
+    if (kind == 3)
+        random_bytes(cost, 8 * c);
+    if (c > 0 && one_in(4))
+        cost[below((uint32_t)c)] = one_in(2) ? LIMIT + 1 : -LIMIT - 1;
+    for (size_t k = 0; k < c; k++)
+        held &= -LIMIT <= cost[k] && cost[k] <= LIMIT;
+    random_bytes(x, 8 * l);
+    random_bytes(y, 8 * m);
+    memcpy(cost0, cost, 8 * c);
+    memcpy(x0, x, 8 * l);
+    memcpy(y0, y, 8 * m);
+    int fits = n >= 1 && n <= 64 && c == n * n && l == n && m == n;
+    uint64_t number = satinjacks_assign_whole(n, cost, c, x, l, y, m);
+    CHECK(number == (!fits ? SATINJACKS_BAD_MATRIX : !held ? SATINJACKS_COST_OUT_OF_RANGE : SATINJACKS_ACCEPTED));
+    CHECK(guarded(pc) && guarded(px) && guarded(py) && memcmp(cost, cost0, 8 * c) == 0);
+    planned[number == 0 ? 0 : number == 8 ? 1 : 2]++;
+    if (number != 0) {
+        CHECK(memcmp(x, x0, 8 * l) == 0 && memcmp(y, y0, 8 * m) == 0);
+        return;
+    }
+    for (size_t k = 0; k < n; k++)
+        CHECK(0 <= x[k] && x[k] < (int64_t)n && y[x[k]] == (int64_t)k);
+    /* no exchange of two rows' columns is cheaper */
+    for (size_t i = 0; i < n; i++)
+        for (size_t k = 0; k < i; k++)
+            CHECK(cost[i * n + x[i]] + cost[k * n + x[k]] <= cost[i * n + x[k]] + cost[k * n + x[i]]);
 }
 
 /* ---- runs: animals that walk and hide, boxes anywhere, or a flood that fills the table */
@@ -600,12 +640,16 @@ int main(int argc, char **argv)
         }
         if (one_in(20))
             assignment(&places[0], &places[1], &places[2]);
+        if (one_in(20))
+            whole_assignment(&places[0], &places[1], &places[2]);
         frame(r);
     }
     tally("frames", counts, "0134567");
     printf(" (%lu with reports, %lu left a NaN)", reporting, with_nan);
     tally("trackers made", made, "02");
     tally("assignments", assigned, "08");
+    printf("; by whole costs: 0 x%lu, 8 x%lu, 12 x%lu", planned[0], planned[1], planned[2]);
+    complete &= planned[0] > 0 && planned[1] > 0 && planned[2] > 0;
     printf("\n");
     fflush(stdout);
     CHECK(complete);

@@ -1,7 +1,7 @@
 /*
  * How much stack the exported calls need: each runs in a thread whose stack is filled with a pattern beforehand; what
  * is overwritten afterwards, less what an empty thread overwrites, is what the call needed. The frames have steady
- * and crowded scenes, births, misses and replays.
+ * and crowded scenes, births, misses and replays; the costs are random and tied.
  */
 #include <pthread.h>
 #include <stdio.h>
@@ -18,6 +18,8 @@ static SatinjacksTracker tracker;
 static size_t objects;
 static float input[320], boxes[256];
 static uint64_t ids[64], refusal;
+static double costs[64 * 64];
+static int64_t units[64 * 64], x[64], y[64];
 
 static void *nothing(void *unused)
 {
@@ -39,6 +41,18 @@ static void *make_with_settings(void *unused)
 static void *update(void *unused)
 {
     refusal = satinjacks_update(&tracker, input, 5 * objects, boxes, 256, ids, 64).number;
+    return unused;
+}
+
+static void *assign(void *unused)
+{
+    refusal = satinjacks_assign(64, costs, 64 * 64, x, 64, y, 64);
+    return unused;
+}
+
+static void *assign_whole(void *unused)
+{
+    refusal = satinjacks_assign_whole(64, units, 64 * 64, x, 64, y, 64);
     return unused;
 }
 
@@ -80,9 +94,14 @@ static void scene(int crowded, int frame)
     }
 }
 
+static size_t larger(size_t a, size_t b)
+{
+    return a > b ? a : b;
+}
+
 int main(void)
 {
-    size_t empty, frame = 0;
+    size_t empty, frame = 0, floats = 0, whole = 0;
     stack = aligned_alloc(4096, STACK);
     if (!stack) return 1;
     empty = needed(nothing);
@@ -93,11 +112,16 @@ int main(void)
             needed(make_with_settings);
             for (int f = 0; f < 60; f++) {
                 scene(crowded, f);
-                size_t now = needed(update) - empty;
-                if (now > frame) frame = now;
+                frame = larger(frame, needed(update) - empty);
             }
         }
     }
     printf("satinjacks_update: %zu\n", frame);
+    for (int kinds = 1; kinds <= 1000000; kinds *= 10) {
+        for (size_t k = 0; k < 64 * 64; k++) costs[k] = (double)(units[k] = rand() % kinds);
+        floats = larger(floats, needed(assign) - empty);
+        whole = larger(whole, needed(assign_whole) - empty);
+    }
+    printf("satinjacks_assign: %zu\nsatinjacks_assign_whole: %zu\n", floats, whole);
     return 0;
 }

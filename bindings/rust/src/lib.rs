@@ -105,6 +105,15 @@ extern "C" {
         y: *mut i64,
         y_len: usize,
     ) -> u64;
+    fn satinjacks_assign_whole(
+        n: usize,
+        cost: *const i64,
+        cost_len: usize,
+        x: *mut i64,
+        x_len: usize,
+        y: *mut i64,
+        y_len: usize,
+    ) -> u64;
 }
 
 /// A tracker, its state on the heap.
@@ -218,6 +227,34 @@ pub fn assign(n: usize, costs: &[f64], rows: &mut [i64], columns: &mut [i64]) ->
     // are written are exclusive, so nothing overlaps.
     let number = unsafe {
         satinjacks_assign(
+            n,
+            costs.as_ptr(),
+            costs.len(),
+            rows.as_mut_ptr(),
+            rows.len(),
+            columns.as_mut_ptr(),
+            columns.len(),
+        )
+    };
+    Refusal::of(number).map_or(Ok(()), Err)
+}
+
+/// Pairs n rows and n columns, n from 1 to 64, by n*n whole costs from -1,000,000 to 1,000,000, given row after row: `rows`
+/// gets each row's column, `columns` each column's row, and no one-to-one pairing has a smaller total. A refusal leaves both
+/// as they were.
+///
+/// ```
+/// let (mut rows, mut columns) = ([0; 3], [0; 3]);
+/// satinjacks::assign_whole(3, &[4, 1, 3, 2, 0, 5, 3, 2, 2], &mut rows, &mut columns)?;
+/// assert_eq!(rows, [1, 0, 2]); // 1 + 2 + 2
+/// let far = satinjacks::assign_whole(1, &[1_000_001], &mut rows[..1], &mut columns[..1]);
+/// assert_eq!(far, Err(satinjacks::Refusal::CostOutOfRange));
+/// # Ok::<(), satinjacks::Refusal>(())
+/// ```
+pub fn assign_whole(n: usize, costs: &[i64], rows: &mut [i64], columns: &mut [i64]) -> Result<(), Refusal> {
+    // SAFETY: as for `assign`.
+    let number = unsafe {
+        satinjacks_assign_whole(
             n,
             costs.as_ptr(),
             costs.len(),

@@ -12,6 +12,7 @@ pub enum Refusal {
     RunOver = 6,
     FullTable = 7,
     BadMatrix = 8,
+    CostOutOfRange = 12,
 }
 
 impl Refusal {
@@ -31,7 +32,8 @@ impl Refusal {
             6 => Self::RunOver,
             7 => Self::FullTable,
             8 => Self::BadMatrix,
-            _ => unreachable!("the library returns 0 to 8"),
+            12 => Self::CostOutOfRange,
+            _ => unreachable!("the library returns 0 to 8 and 12"),
         })
     }
 }
@@ -47,6 +49,7 @@ impl fmt::Display for Refusal {
             Self::RunOver => "run over: 1,000,000 frames are counted",
             Self::FullTable => "full table: more than 64 tracks; call with no objects or with fewer",
             Self::BadMatrix => "bad matrix: the assignment's sizes don't agree",
+            Self::CostOutOfRange => "cost out of range: a whole cost is outside -1,000,000 to 1,000,000",
         })
     }
 }

@@ -1,5 +1,5 @@
 //! Document 01's cases through the library, and that a refusal writes nothing.
-use satinjacks::{assign, BoxImage, Detection, Refusal, Settings, Track, Tracker, TrackerImage};
+use satinjacks::{assign, assign_whole, BoxImage, Detection, Refusal, Settings, Track, Tracker, TrackerImage};
 
 const DEFAULTS: Settings = Settings {
     det_thresh: 0.5,
@@ -138,6 +138,39 @@ fn assignment() {
     assert_eq!((rows, columns), ([7; 2], [7; 2]));
     assign(2, &[4.0, 1.0, 2.0, 3.0], &mut rows, &mut columns).unwrap();
     assert_eq!((rows, columns), ([1, 0], [1, 0]));
+}
+
+/// The least total of all pairings of the rows from `row` on with columns that are not taken.
+fn least(n: usize, costs: &[i64], row: usize, taken: u32) -> i64 {
+    let open = (0..n).filter(|j| taken >> j & 1 == 0);
+    open.map(|j| costs[row * n + j] + least(n, costs, row + 1, taken | 1 << j)).min().unwrap_or(0)
+}
+
+#[test]
+fn whole_assignment() {
+    let (mut rows, mut columns) = ([7; 2], [7; 2]);
+    assert_eq!(assign_whole(2, &[2_000_000; 3], &mut rows, &mut columns), Err(Refusal::BadMatrix));
+    assert_eq!(assign_whole(2, &[0, 0, 0, -1_000_001], &mut rows, &mut columns), Err(Refusal::CostOutOfRange));
+    assert_eq!(assign_whole(1, &[i64::MIN], &mut rows[..1], &mut columns[..1]), Err(Refusal::CostOutOfRange));
+    assert_eq!((rows, columns), ([7; 2], [7; 2]));
+    assign_whole(2, &[1_000_000, -1_000_000, -1_000_000, 1_000_000], &mut rows, &mut columns).unwrap();
+    assert_eq!((rows, columns), ([1, 0], [1, 0]));
+    let mut seed = 1u64;
+    for k in 0..2_000 {
+        let n = 1 + k % 6;
+        let mut costs = [0; 36];
+        for cost in &mut costs[..n * n] {
+            seed = seed.wrapping_mul(6_364_136_223_846_793_005).wrapping_add(1);
+            // ends of the range and small numbers, so that there are ties
+            *cost = [1_000_000, -1_000_000, 0, 1][(seed >> 60) as usize % 4] - ((seed >> 40) % 3) as i64;
+            *cost = (*cost).max(-1_000_000);
+        }
+        let (mut rows, mut columns) = ([0; 6], [0; 6]);
+        assign_whole(n, &costs[..n * n], &mut rows[..n], &mut columns[..n]).unwrap();
+        let total: i64 = (0..n).map(|i| costs[i * n + rows[i] as usize]).sum();
+        assert_eq!(total, least(n, &costs, 0, 0));
+        assert!((0..n).all(|i| columns[rows[i] as usize] == i as i64));
+    }
 }
 
 /// A crowded run in a thread whose stack is small: the 2 MB that Rust gives a thread, and a quarter of it.

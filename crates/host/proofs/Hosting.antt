@@ -8,7 +8,7 @@ use lib.Ieee.{Float}
 use lib.ListN.{length}
 use Rattle.object.specs.Refusal.{numberOf}
 use Rattle.object.specs.declared.Refusal.{Refusal}
-use Rattle.object.specs.declared.Refusal.the-variants.{UnsoundState, BadSetting, RaggedFrame, CrowdedFrame, ShortAnswer, RunOver, FullTable, BadMatrix}
+use Rattle.object.specs.declared.Refusal.the-variants.{UnsoundState, BadSetting, RaggedFrame, CrowdedFrame, ShortAnswer, RunOver, FullTable, BadMatrix, CostOutOfRange}
 use Rattle.frame.specs.declared.Tracker.{Tracker}
 use Rattle.frame.specs.declared.Answer.{Answer}
 use Rattle.frame.specs.Frame as frame
@@ -29,6 +29,7 @@ nonzero ShortAnswer e = omega (arith, e)
 nonzero RunOver e = omega (arith, e)
 nonzero FullTable e = omega (arith, e)
 nonzero BadMatrix e = omega (arith, e)
+nonzero CostOutOfRange e = omega (arith, e)
 
 -- a number other than 0 is a refusal's
 kept-image : (i : TrackerImage) (r : frame.Reply) (next : Tracker) → (numberIn r ≡ 0 → ⊥) → i ≡ imageAfter i r next

@@ -9,6 +9,7 @@ ghost use Rattle.image.specs.Image.{tagged, imageOf};
 ghost use Rattle.rules.specs.Rules.{totalRules};
 ghost use Rattle.frame.specs.Contract.{madeOf};
 ghost use Rattle.lapjv.specs.Answer.{Answer, numberOf};
+ghost use Rattle.lapint.specs.Answer.{WholeAnswer};
 ghost use Rattle.oc_sort_tracker.specs.New.{defaults};
 ghost use Rattle.making.specs.Making.{freshOf, freshWith, begun};
 ghost use Rattle.host.specs.Host.{Hosted};
@@ -218,8 +219,18 @@ pub extern "C" fn satinjacks_new_lists(
 pub extern "C" fn satinjacks_assign(n: usize, cost: &[f64], x: &mut [i64], y: &mut [i64]) -> u64
     ensures { λ r. ⌜ ((a : Assigned) × ((r ≡ numberOf a) × Answer n (now (cost .entry)) (now (x .entry)) (now (y .entry)) a (now (x .exit)) (now (y .exit)))) ⌝ }
 {
-    match lapjv::lapjv(n, cost, x, y) {
-        Assigned::Paired => 0,
-        Assigned::Refused(refusal) => object::number(refusal) as u64,
-    }
+    lapjv::told(lapjv::lapjv(n, cost, x, y))
+}
+
+// Pairs them by whole costs, at the least total (document 02, 2.3).
+#[no_mangle]
+pub extern "C" fn satinjacks_assign_whole(
+    n: usize,
+    cost: &[i64],
+    x: &mut [i64],
+    y: &mut [i64],
+) -> u64
+    ensures { λ r. ⌜ ((a : Assigned) × ((r ≡ numberOf a) × WholeAnswer n (now (cost .entry)) (now (x .entry)) (now (y .entry)) a (now (x .exit)) (now (y .exit)))) ⌝ }
+{
+    lapjv::told(lapint::lapint(n, cost, x, y))
 }

@@ -16,12 +16,22 @@ ghost use Rattle.lapjv_walk.specs.Ops.{floats};
 ghost use Rattle.lapjv_walk.specs.Lapjv.{hopMore, augment, caStep, caDense, lapjv};
 ghost use Rattle.lapjv_walk.specs.Holds.{Square, Marked, Room, Left};
 ghost use Rattle.lapjv_walk.specs.Ends.{RowEnds};
-ghost use Rattle.lapjv.specs.Answer.{Ranged, fits, Answer};
+ghost use Rattle.lapjv.specs.Answer.{numberOf, Ranged, fits, Answer};
 
 // What a call is told: its rows and columns are paired, or why it was turned away.
 pub enum Assigned {
     Paired,
     Refused(Refusal),
+}
+
+// The number that a host is told, 0 where rows and columns are paired.
+pub fn told(a: Assigned) -> u64
+    ensures { λ r. ⌜ r ≡ numberOf a ⌝ }
+{
+    match a {
+        Assigned::Paired => 0,
+        Assigned::Refused(refusal) => object::number(refusal) as u64,
+    }
 }
 
 // The column of row i, or 0 where it has none.
@@ -36,7 +46,7 @@ fn column_at(x: &[i64], i: usize) -> usize
 }
 
 // From column last back to row start: the row before each column takes it, and leaves its own.
-fn augment(n: usize, pred: &[usize], start: usize, last: usize, x: &mut [i64], y: &mut [i64])
+pub fn augment(n: usize, pred: &[usize], start: usize, last: usize, x: &mut [i64], y: &mut [i64])
     requires { ⌜ (n ≤ 64) × (start < n) × (last < n) × (length (now pred) ≡ n) × ((j : ℕ) → j < n → numAt (now pred) j < n) × Ranged n (now x) × (length (now y) ≡ n) × (hopMore start (augment n (now pred) start last (now x) (now y)) ≡ false) ⌝ }
     ensures { λ _. ⌜ (augment n (now (pred .entry)) start last (now (x .entry)) (now (y .entry)) .x ≡ now (x .exit)) × (augment n (now (pred .entry)) start last (now (x .entry)) (now (y .entry)) .y ≡ now (y .exit)) ⌝ }
 {
@@ -110,7 +120,7 @@ fn lapjv_in(
 }
 
 // Whether n is from 1 to 64, the costs are n rows of n, and each list is n long.
-fn sizes_fit(n: usize, costs: usize, rows: usize, columns: usize) -> bool
+pub fn sizes_fit(n: usize, costs: usize, rows: usize, columns: usize) -> bool
     ensures { λ r. ⌜ r ≡ fits n costs rows columns ⌝ }
 {
     if n == 0 {

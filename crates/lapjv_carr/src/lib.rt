@@ -7,9 +7,8 @@ use lapjv_walk::is_free;
 use lapjv_walk::mark;
 use lapjv_walk::put_mark;
 ghost use mathlib.Core.Path.{_≡_};
-ghost use mathlib.Core.List.{List};
+ghost use mathlib.Core.List.{[]};
 ghost use Prim.Native.Nat.{ℕ, _+_, _≤_, _<_};
-ghost use lib.Ieee.{Float};
 ghost use lib.ListN.{length};
 ghost use Rattle.lapjv_walk.specs.Marks.{numAt};
 ghost use Rattle.lapjv_walk.specs.Ops.{floats};
@@ -60,8 +59,8 @@ pub struct Turn {
     pub fresh: usize,
 }
 
-// Row i takes column j; the row that had it comes next if `again`, else it is kept.
-fn seat(
+// Row i takes column j; the row that had it comes next if `again`, else it is kept. Of prices it reads and writes none: its contract is `carrSeat` without any.
+pub fn seat(
     n: usize,
     i: usize,
     j: usize,
@@ -72,7 +71,7 @@ fn seat(
     y: &mut [i64],
 ) -> Turn
     requires { ⌜ (n ≤ 64) × (i < n) × (j < n) × (turn .current < n) × (turn .fresh < n) × (length (now rows) ≡ n) × (length (now x) ≡ n) × Marked n (now y) ⌝ }
-    ensures { λ r. ⌜ ((v w : List Float) (t : ℕ) → carrSeat i j again v (record { rows = now (rows .entry); current = turn .current; fresh = turn .fresh; turn = t; x = now (x .entry); y = now (y .entry); v = w }) ≡ record { rows = now (rows .exit); current = r .current; fresh = r .fresh; turn = t + 1; x = now (x .exit); y = now (y .exit); v = v }) ⌝ }
+    ensures { λ r. ⌜ ((t : ℕ) → carrSeat {C = Unit} i j again [] (record { rows = now (rows .entry); current = turn .current; fresh = turn .fresh; turn = t; x = now (x .entry); y = now (y .entry); v = [] }) ≡ record { rows = now (rows .exit); current = r .current; fresh = r .fresh; turn = t + 1; x = now (x .exit); y = now (y .exit); v = [] }) ⌝ }
 {
     let current = turn.current;
     let fresh = turn.fresh;

@@ -18,7 +18,7 @@ use Rattle.lapjv_walk.proofs.Whole.{columns-ok}
 module _ (O : Ops) (n : ℕ) (cost : List (O .C)) (some : 0 < n) (x₁ y₁ y₂ : List ℤ) (v₁ v₂ : List (O .C)) (u₁ : List Bool)
     (ex : x₁ ≡ tab (λ _. free) n) (ev : v₁ ≡ tab (λ _. O .large) n) (ey : y₁ ≡ tab (λ _. pos 0) n) (eu : u₁ ≡ tab (λ _. true) n)
     (er : walk (reduceRow O n cost) 0 n (record { v = v₁; y = y₁ }) ≡ record { v = v₂; y = y₂ }) where
-  reduced : reduceColumns O n cost ≡ record { v = v₂; y = y₂ }
+  pub reduced : reduceColumns O n cost ≡ record { v = v₂; y = y₂ }
   unfolding reduceColumns
   reduced = rw (← ev, ← ey) er
 
@@ -29,7 +29,7 @@ module _ (O : Ops) (n : ℕ) (cost : List (O .C)) (some : 0 < n) (x₁ y₁ y₂
   assign-asks = rw (ex, eu) (assign-starts n n y₂ refl (ok .1))
 
   module _ (x₃ y₃ : List ℤ) (u₃ : List Bool) (ea : assignFrom n (record { x = x₁; y = y₂; unique = u₁ }) ≡ record { x = x₃; y = y₃; unique = u₃ }) where
-    assigned : assign n y₂ ≡ record { x = x₃; y = y₃; unique = u₃ }
+    pub assigned : assign n y₂ ≡ record { x = x₃; y = y₃; unique = u₃ }
     unfolding assign
     assigned = rw (← ex, ← eu) ea
 

@@ -61,7 +61,7 @@ fn reduce_columns(n: usize, cost: &[f64], v: &mut [f64], y: &mut [i64])
 }
 
 // Each column takes its row, from the last column to the first, where no other has.
-fn assign_columns(n: usize, x: &mut [i64], y: &mut [i64], unique: &mut [bool])
+pub fn assign_columns(n: usize, x: &mut [i64], y: &mut [i64], unique: &mut [bool])
     requires { ⌜ (n ≤ 64) × AssignOk n n (record { x = now x; y = now y; unique = now unique }) ⌝ }
     ensures { λ _. ⌜ assignFrom n (record { x = now (x .entry); y = now (y .entry); unique = now (unique .entry) }) ≡ record { x = now (x .exit); y = now (y .exit); unique = now (unique .exit) } ⌝ }
 {

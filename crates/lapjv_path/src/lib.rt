@@ -151,7 +151,7 @@ fn search_from(
 }
 
 // The last free column among those from lo up to hi.
-fn last_free(n: usize, lo: usize, hi: usize, cols: &[usize], y: &[i64]) -> i64
+pub fn last_free(n: usize, lo: usize, hi: usize, cols: &[usize], y: &[i64]) -> i64
     requires { ⌜ (n ≤ 64) × (lo ≤ hi) × (hi ≤ n) × Apart n (now cols) × (length (now y) ≡ n) ⌝ }
     ensures { λ r. ⌜ r ≡ lastFree (now (y .entry)) (now (cols .entry)) lo hi ⌝ }
 {

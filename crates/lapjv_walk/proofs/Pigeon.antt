@@ -1,9 +1,10 @@
 -- n different numbers below n leave none out. Assumes nothing.
-use mathlib.Core.Path.{sym, _∙_, _≡_}
+use mathlib.Core.Path.{refl, sym, _∙_, _≡_}
+use mathlib.Core.Bool.{Bool, true, false}
 use mathlib.Core.List.{List}
 use mathlib.Core.Logic.{inl, inr, _⊎_, ⊎-elim}
 use Prim.Native.Nat.{_<_, suc, zero, ℕ}
-use borrow.Author.Tests.{eq-eqb, ne-eqb}
+use borrow.Author.Tests.{eq-eqb, ne-eqb, eqb-true, eqb-false}
 use lib.Dec.{eqb}
 use lib.ListN.{getD}
 use native.Mathlib.Decide.{ℕ-discrete}
@@ -50,21 +51,28 @@ pub pigeon : (n : ℕ) (f : ℕ → ℕ) → ((i : ℕ) → i < suc n → f i < 
 pigeon zero f b inj = omega (arith, b 0 (omega arith))
 pigeon (suc n) f b inj = pigeon n (less n f b inj) (less-below n f b inj) (less-inj n f b inj)
 
+-- f, but r at q
+pub swapped : (ℕ → ℕ) → ℕ → ℕ → ℕ → ℕ
+swapped f q r i = pick (eqb i q) r (f i)
+
+pub at-q : (f : ℕ → ℕ) (q r i : ℕ) → i ≡ q → swapped f q r i ≡ r
+unfolding swapped
+at-q f q r i e = rw (eq-eqb i q e)
+
+pub not-q : (f : ℕ → ℕ) (q r i : ℕ) → (i ≡ q → ⊥) → swapped f q r i ≡ f i
+unfolding swapped
+not-q f q r i u = rw (ne-eqb i q u)
+
 -- n numbers below n, all different, leave none out
 module _ (n : ℕ) (f : ℕ → ℕ) (m : ℕ) (hm : m < n) (b : (i : ℕ) → i < n → f i < n) (inj : (i j : ℕ) → i < n → j < n → f i ≡ f j → i ≡ j) (out : (i : ℕ) → i < n → f i ≡ m → ⊥) where
-  with-m : ℕ → ℕ
-  with-m i = pick (eqb i n) m (f i)
+  at-n : (i : ℕ) → i ≡ n → swapped f n m i ≡ m
+  at-n = at-q f n m
 
-  at-n : (i : ℕ) → i ≡ n → with-m i ≡ m
-  unfolding with-m
-  at-n i e = rw (eq-eqb i n e)
-
-  at-i : (i : ℕ) → (i ≡ n → ⊥) → with-m i ≡ f i
-  unfolding with-m
-  at-i i u = rw (ne-eqb i n u)
+  at-i : (i : ℕ) → (i ≡ n → ⊥) → swapped f n m i ≡ f i
+  at-i = not-q f n m
 
   pub none-out : ⊥
-  none-out = pigeon n with-m
+  none-out = pigeon n (swapped f n m)
       (λ i h. elim (ℕ-discrete i n) [ yes e ↦ omega (arith, at-n i e) | no u ↦ omega (arith, at-i i u, b i (omega arith)) ])
       (λ i j hi hj e. elim (ℕ-discrete i n) [
         | yes p ↦ elim (ℕ-discrete j n) [ yes q ↦ p ∙ sym q | no q ↦ absurd (out j (omega arith) (sym (at-i j q) ∙ sym e ∙ at-n i p)) ]
@@ -75,15 +83,20 @@ module _ (n : ℕ) (f : ℕ → ℕ) (m : ℕ) (hm : m < n) (b : (i : ℕ) → i
       ])
 
 -- so each of them stands at some place
-look : (cols : List ℕ) (j k : ℕ) → ((q : ℕ) × (q < k) × (getD cols q 0 ≡ j)) ⊎ ((q : ℕ) → q < k → getD cols q 0 ≡ j → ⊥)
-look cols j zero = inr (λ q h e. omega arith)
-look cols j (suc k) = elim (ℕ-discrete (getD cols k 0) j) [
-  | yes e ↦ inl (k, omega arith, e)
-  | no u ↦ ⊎-elim
-      (λ (w : (q : ℕ) × (q < k) × (getD cols q 0 ≡ j)). inl (w .0, omega (arith, w .1), w .2))
-      (λ (w : (q : ℕ) → q < k → getD cols q 0 ≡ j → ⊥). inr (λ q h e. elim (ℕ-discrete q k) [ yes r ↦ u (rw r at e) | no r ↦ w q (omega arith) e ]))
-      (look cols j k)
-]
+pub some-or-none : (t : ℕ → Bool) (k : ℕ) → ((q : ℕ) × (q < k) × (t q ≡ true)) ⊎ ((q : ℕ) → q < k → t q ≡ false)
+some-or-none t zero = inr (λ q h. absurd (omega arith))
+some-or-none t (suc k) = go (t k) refl (some-or-none t k)
+  where
+    go : (b : Bool) → t k ≡ b → ((q : ℕ) × (q < k) × (t q ≡ true)) ⊎ ((q : ℕ) → q < k → t q ≡ false) → ((q : ℕ) × (q < suc k) × (t q ≡ true)) ⊎ ((q : ℕ) → q < suc k → t q ≡ false)
+    go true e r = inl (k, omega arith, e)
+    go false e (inl w) = inl (w .0, omega (arith, w .1), w .2)
+    go false e (inr w) = inr (λ q h. elim (ℕ-discrete q k) [ yes a ↦ rw a e | no u ↦ w q (omega arith) ])
+
+pub hit : (n : ℕ) (f : ℕ → ℕ) → ((i : ℕ) → i < n → f i < n) → ((i j : ℕ) → i < n → j < n → f i ≡ f j → i ≡ j) → (m : ℕ) → m < n → (q : ℕ) × (q < n) × (f q ≡ m)
+hit n f b inj m h = ⊎-elim
+    (λ (w : (q : ℕ) × (q < n) × (eqb (f q) m ≡ true)). (w .0, w .1, eqb-true (f (w .0)) m (w .2)))
+    (λ (w : (q : ℕ) → q < n → eqb (f q) m ≡ false). absurd (none-out n f m h b inj (λ q l. eqb-false (f q) m (w q l))))
+    (some-or-none (λ q. eqb (f q) m) n)
 
 pub at-place : (n : ℕ) (cols : List ℕ) → Apart n cols → (j : ℕ) → j < n → (q : ℕ) × (q < n) × (getD cols q 0 ≡ j)
-at-place n cols a j h = ⊎-elim (λ w. w) (λ (w : (q : ℕ) → q < n → getD cols q 0 ≡ j → ⊥). absurd (none-out n (λ q. getD cols q 0) j h (a .below) (a .inj) w)) (look cols j n)
+at-place n cols a = hit n (λ q. getD cols q 0) (a .below) (a .inj)

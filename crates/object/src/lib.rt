@@ -101,6 +101,8 @@ pub enum Refusal {
     FullTable,
     // The assignment's sizes don't agree.
     BadMatrix,
+    // A whole cost of the assignment is outside -1,000,000 to 1,000,000 (document 02, 2.3).
+    CostOutOfRange,
 }
 
 // The number that a host is told.
@@ -116,5 +118,6 @@ pub fn number(r: Refusal) -> u8
         Refusal::RunOver => 6,
         Refusal::FullTable => 7,
         Refusal::BadMatrix => 8,
+        Refusal::CostOutOfRange => 12,
     }
 }

@@ -2,7 +2,6 @@
 ghost use mathlib.Core.Path.{_≡_};
 ghost use Prim.Native.Nat.{_≤_};
 ghost use lib.ListN.{length};
-use crate::mark_lines;
 use matching::Marks;
 use protocol::Answer;
 use protocol::size_of;

@@ -1,5 +1,7 @@
 // The words of a line by which the module is compared with the original: bit patterns in hexadecimal and whole numbers in decimal,
 // read from a lent line and put into a lent answer. Reading never goes past the line and writing never past the answer.
+pub mod faults;
+
 ghost use mathlib.Core.Path.{_≡_};
 ghost use Prim.Native.Nat.{_<_, _≤_};
 ghost use lib.Ieee.{binary32, binary64, ofBits};
@@ -31,7 +33,7 @@ pub fn next(line: &[u8], at: usize) -> usize {
 }
 
 // The byte at a place, a blank past the end: there a word ends as well.
-fn or_blank(line: &[u8], at: usize) -> u8 {
+pub fn or_blank(line: &[u8], at: usize) -> u8 {
     if at < line.len() { line[at] } else { b' ' }
 }
 
@@ -67,7 +69,7 @@ fn with_digit(w: Word, d: u64, base: u64, end: usize) -> Word
 }
 
 // The digits of that base behind the blank at `at`, at most so many, to the end of a word.
-fn digits(line: &[u8], at: usize, base: u64, most: usize) -> Word
+pub fn digits(line: &[u8], at: usize, base: u64, most: usize) -> Word
     requires { ⌜ base ≤ 16 ⌝ }
 {
     let mut w = Word {

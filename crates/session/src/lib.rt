@@ -1,10 +1,8 @@
 // The answer to a line of the comparison with the original, and the tracker that is held after it.
-pub mod faults;
-
-use faults::Fault;
-use faults::put_error;
 use frame_lines::Told;
 use protocol::Answer;
+use protocol::faults::Fault;
+use protocol::faults::put_error;
 use state_lines::Loading;
 
 // The tracker that is held, if one is, or the one whose lines are still coming.

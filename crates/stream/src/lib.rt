@@ -2,9 +2,9 @@
 // ends: the programs `replay` and `edges` are this on their own lines.
 use libc::STDIN_FILENO;
 use libc::STDOUT_FILENO;
+use protocol::faults::Fault;
 use session::Reply;
 use session::Session;
-use session::faults::Fault;
 
 // Room for the longest line, and for the longest answer behind others that wait.
 const LINE: usize = 131072;
@@ -102,7 +102,7 @@ fn put_answer(
 ) -> Reply {
     if !fits {
         return Reply {
-            at: session::faults::put_error(answers, at, number, Fault::TooLong),
+            at: protocol::faults::put_error(answers, at, number, Fault::TooLong),
             session: k,
         };
     }

@@ -19,6 +19,7 @@ use Rattle.lapjv_walk.proofs.Carr.{two-ok, TwoOk}
 use Rattle.lapjv_walk.proofs.Cases.{seat-below, taken-pos}
 use Rattle.lapjv_walk.proofs.Cells.{cells}
 use Rattle.lapjv_walk.proofs.Turns.{carr-alone, carr-late, carr-lower, carr-open, carr-second, carr≡}
+use Rattle.lapjv_carr.proofs.SeatAny.{seat-any}
 use Rattle.lapjv_carr.proofs.carr_turn.Statement.{statement}
 use Rattle.lapjv_carr.proofs.carr_turn.Tie as tie
 
@@ -97,7 +98,7 @@ returns c =
     let arg = c .before .before .before .before .before .before .before .before .before .before .before .before .before .before .before .before .before .before .before .args in
     λ t et.
     let s : Carr Float = record { rows = now (arg .rows); current = arg .turn .current; fresh = arg .turn .fresh; turn = t; x = now (arg .x); y = now (arg .y); v = now (arg .v) } in
-    carr-lower floats (arg .n) (now (arg .cost)) s b (best .ensures) (lt-ltb (t + 1) ((arg .turn .current + 1) * arg .n) (rw et (c .before .before .before .before .before .before .before .before .before .if1 .taken))) (c .before .before .before .before .before .before .before .before .if2 .taken) ∙ (c .before .before .before .before .seat .ensures (set (now (arg .v)) (best .result .j1) (lib.Ieee.sub lib.Ieee.binary64 (getD (now (arg .v)) (best .result .j1) lib.Ieee.nan) (lib.Ieee.sub lib.Ieee.binary64 (best .result .v2) (best .result .v1)))) (now (arg .v)) t) ∙ carr≡ refl refl refl et refl refl refl
+    carr-lower floats (arg .n) (now (arg .cost)) s b (best .ensures) (lt-ltb (t + 1) ((arg .turn .current + 1) * arg .n) (rw et (c .before .before .before .before .before .before .before .before .before .if1 .taken))) (c .before .before .before .before .before .before .before .before .if2 .taken) ∙ seat-any _ _ _ (set (now (arg .v)) (best .result .j1) (lib.Ieee.sub lib.Ieee.binary64 (getD (now (arg .v)) (best .result .j1) lib.Ieee.nan) (lib.Ieee.sub lib.Ieee.binary64 (best .result .v2) (best .result .v1)))) s (c .before .before .before .before .seat .ensures t) ∙ carr≡ refl refl refl et refl refl refl
 
 free-at-requires : tie.Need-free-at-requires
 free-at-requires c κs =
@@ -140,7 +141,7 @@ returns-2 c =
     let s : Carr Float = record { rows = now (arg .rows); current = arg .turn .current; fresh = arg .turn .fresh; turn = t; x = now (arg .x); y = now (arg .y); v = now (arg .v) } in
     carr-second floats (arg .n) (now (arg .cost)) s b (best .ensures) (lt-ltb (t + 1) ((arg .turn .current + 1) * arg .n) (rw et (c .before .before .before .before .before .before .before .before .before .before .before .before .before .before .before .if1 .taken))) (c .before .before .before .before .before .before .before .before .before .before .before .before .before .before .if2 .left) (sym (c .before .before .before .before .before .before .before .before .before .before .before .before .free-at .ensures) ∙ not-true _ (c .before .before .before .before .before .before .before .before .before .before .before .if3 .taken)) (rw z at (sym (c .before .before .before .before .before .before .before .before .before .before .is-free .ensures) ∙ not-true _ (c .before .before .before .before .before .before .before .before .before .if4 .taken)))
     ∙ ap (λ (j : ℕ). carrSeat (getD (now (arg .rows)) (arg .turn .current) 0) j false (now (arg .v)) s) (sym (c .before .before .before .before .before .before .before .before .index-of .ensures ∙ ap index z))
-    ∙ (c .before .before .before .before .seat2 .ensures (now (arg .v)) (now (arg .v)) t) ∙ carr≡ refl refl refl et refl refl refl
+    ∙ seat-any _ _ _ (now (arg .v)) s (c .before .before .before .before .seat2 .ensures t) ∙ carr≡ refl refl refl et refl refl refl
 
 seat-requires-3 : tie.Need-seat-requires-3
 seat-requires-3 c κs =
@@ -174,7 +175,7 @@ returns-3 c =
     (λ w. carr-late floats (arg .n) (now (arg .cost)) s b (best .ensures) (le-ltb (t + 1) ((arg .turn .current + 1) * arg .n) (rw et (w .left))))
     z)
     (c .before .before .before .before .before .before .before .before .if1 .came)
-    ∙ (c .before .before .before .before .seat3 .ensures (now (arg .v)) (now (arg .v)) t) ∙ carr≡ refl refl refl et refl refl refl
+    ∙ seat-any _ _ _ (now (arg .v)) s (c .before .before .before .before .seat3 .ensures t) ∙ carr≡ refl refl refl et refl refl refl
 
 pub carr-turn-spec : {M : Type 1} → statement M
 carr-turn-spec =

@@ -1,5 +1,6 @@
 -- `lapjv_carr::seat` meets its contract. Assumes nothing.
 use mathlib.Core.Path.{ap, refl, sym, _∙_}
+use mathlib.Core.List.{[]}
 use Prim.Native.Nat.{ℕ}
 use borrow.Author.Needs.{needs}
 use denote.Ref.{now}
@@ -29,8 +30,8 @@ same-length-2 c = search needs
 returns : tie.Need-returns
 returns c =
     let arg = c .before .before .before .before .before .before .before .before .before .before .args in
-    λ v w t.
-    seat-empty (arg .i) (arg .j) v (record { rows = now (arg .rows); current = arg .turn .current; fresh = arg .turn .fresh; turn = t; x = now (arg .x); y = now (arg .y); v = w }) (arg .again) (sym (c .before .before .before .before .free-at .ensures) ∙ c .before .before .before .if1 .taken)
+    λ t.
+    seat-empty (arg .i) (arg .j) [] (record { rows = now (arg .rows); current = arg .turn .current; fresh = arg .turn .fresh; turn = t; x = now (arg .x); y = now (arg .y); v = [] }) (arg .again) (sym (c .before .before .before .before .free-at .ensures) ∙ c .before .before .before .if1 .taken)
     ∙ carr≡ refl refl refl refl (sym (c .before .before .before .before .before .before .before .put-mark .ensures)) (sym (c .before .put-mark2 .ensures)) refl
 
 index-at-requires : tie.Need-index-at-requires
@@ -57,8 +58,8 @@ same-length-5 c = search needs
 returns-2 : tie.Need-returns-2
 returns-2 c =
     let arg = c .before .before .before .before .before .before .before .before .before .before .before .before .before .args in
-    λ v w t.
-    seat-again (arg .i) (arg .j) v (record { rows = now (arg .rows); current = arg .turn .current; fresh = arg .turn .fresh; turn = t; x = now (arg .x); y = now (arg .y); v = w }) (arg .again) (sym (c .before .before .before .before .before .before .before .free-at .ensures) ∙ c .before .before .before .before .before .before .if1 .left) (c .if2 .taken)
+    λ t.
+    seat-again (arg .i) (arg .j) [] (record { rows = now (arg .rows); current = arg .turn .current; fresh = arg .turn .fresh; turn = t; x = now (arg .x); y = now (arg .y); v = [] }) (arg .again) (sym (c .before .before .before .before .before .before .before .free-at .ensures) ∙ c .before .before .before .before .before .before .if1 .left) (c .if2 .taken)
     ∙ carr≡ (ap (λ (z : ℕ). set (now (arg .rows)) (arg .turn .current) z) (sym (c .before .before .before .before .index-at .ensures))) refl refl refl (sym (c .before .before .before .before .before .before .before .before .before .before .put-mark .ensures)) (sym (c .before .before .put-mark3 .ensures)) refl
 
 mul-rows-2 : tie.Need-mul-rows-2
@@ -85,8 +86,8 @@ same-length-8 c = search needs
 returns-3 : tie.Need-returns-3
 returns-3 c =
     let arg = c .before .before .before .before .before .before .before .before .before .before .before .before .before .args in
-    λ v w t.
-    seat-back (arg .i) (arg .j) v (record { rows = now (arg .rows); current = arg .turn .current; fresh = arg .turn .fresh; turn = t; x = now (arg .x); y = now (arg .y); v = w }) (arg .again) (sym (c .before .before .before .before .before .before .before .free-at .ensures) ∙ c .before .before .before .before .before .before .if1 .left) (c .if2 .left)
+    λ t.
+    seat-back (arg .i) (arg .j) [] (record { rows = now (arg .rows); current = arg .turn .current; fresh = arg .turn .fresh; turn = t; x = now (arg .x); y = now (arg .y); v = [] }) (arg .again) (sym (c .before .before .before .before .before .before .before .free-at .ensures) ∙ c .before .before .before .before .before .before .if1 .left) (c .if2 .left)
     ∙ carr≡ (ap (λ (z : ℕ). set (now (arg .rows)) (arg .turn .fresh) z) (sym (c .before .before .before .before .index-at .ensures))) refl refl refl (sym (c .before .before .before .before .before .before .before .before .before .before .put-mark .ensures)) (sym (c .before .before .put-mark3 .ensures)) refl
 
 pub seat-spec : {M : Type 1} → statement M
