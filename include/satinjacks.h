@@ -157,6 +157,18 @@ uint64_t satinjacks_assign(size_t n, const double *cost, size_t cost_len,
 uint64_t satinjacks_assign_whole(size_t n, const int64_t *cost, size_t cost_len,
                                  int64_t *x, size_t x_len, int64_t *y, size_t y_len);
 
+/*
+ * Of all patterns of overlaps above the threshold, rows by columns, how many
+ * take the shortcut of the pairing (no row and no column has more than one,
+ * and there is one) and how many go to the assignment. 1 to 4 rows by 1 to 4
+ * columns; any other size gives 0 and 0.
+ */
+typedef struct {
+    uint64_t shortcut, assignment;
+} SatinjacksShortcuts;
+
+SatinjacksShortcuts satinjacks_shortcuts(uint64_t rows, uint64_t columns);
+
 /* A tracker's lists; from the tracker's own pointer, since each goes past the field that it begins with. */
 static inline uint64_t *satinjacks_wide(SatinjacksTracker *image)
 {

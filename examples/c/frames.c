@@ -1,4 +1,4 @@
-/* Three frames of one animal, a frame without it, and a refusal. */
+/* Three frames of one animal, a frame without it, a refusal, an assignment, and how often the shortcut runs. */
 #include "satinjacks.h"
 
 #include <stdio.h>
@@ -47,5 +47,9 @@ int main(void)
     if (satinjacks_assign_whole(2, units, 4, x, 2, y, 2) != SATINJACKS_ACCEPTED)
         return 1;
     printf("row 0 takes column %lld, row 1 column %lld\n", (long long)x[0], (long long)x[1]);
+
+    SatinjacksShortcuts s = satinjacks_shortcuts(2, 2);
+    printf("2 by 2: %llu patterns take the shortcut, %llu go to the assignment\n",
+           (unsigned long long)s.shortcut, (unsigned long long)s.assignment);
     return 0;
 }

@@ -53,7 +53,7 @@ mod oc_sort_tracker {
     original!(kalman_filter, "oc_sort_tracker/kalman_filter.rs");
     original!(strack, "oc_sort_tracker/strack.rs");
     original!(oc_sort_tracker, "oc_sort_tracker/oc_sort_tracker.rs");
-    pub(crate) use assoc::{associate, iou_batch};
+    pub(crate) use assoc::{associate, iou_batch, takes_shortcut};
     pub(crate) use kalman_filter::{DetectBox, KalmanFilter};
     pub(crate) use oc_sort_tracker::OCSort;
     pub(crate) use strack::{convert_bbox_to_z, convert_x_to_bbox, speed_direction};

@@ -1,6 +1,7 @@
 //! The lines that need no tracker: each asks one function of the original sources, or one stand-in.
 use crate::oc_sort_tracker::{
-    associate, convert_bbox_to_z, convert_x_to_bbox, iou_batch, speed_direction, DetectBox, KalmanFilter,
+    associate, convert_bbox_to_z, convert_x_to_bbox, iou_batch, speed_direction, takes_shortcut, DetectBox,
+    KalmanFilter,
 };
 #[cfg(not(feature = "plain"))]
 use crate::stand_ins::StandIns;
@@ -14,6 +15,7 @@ pub fn answer(word: &str, words: &mut Words, out: &mut Vec<u8>) -> Result<bool, 
         "lap" => return lap(words, out).map(|_| true),
         "lapint" => return whole_lap(words, out).map(|_| true),
         "assoc" => return assoc(words, out).map(|_| true),
+        "shortcuts" => return shortcuts(words, out).map(|_| true),
         "widen" => {
             let x = words.f32()?;
             words.end()?;
@@ -224,6 +226,21 @@ fn assoc(words: &mut Words, out: &mut Vec<u8>) -> Result<(), Fault> {
     out.extend(b"\ntracks");
     found.unmatched_trks.iter().for_each(|&t| put_whole(out, t));
     out.push(b'\n');
+    Ok(())
+}
+
+/// Goes through all patterns of the size; document 02, 2.14.
+fn shortcuts(words: &mut Words, out: &mut Vec<u8>) -> Result<(), Fault> {
+    let (rows, columns) = (words.whole()?, words.whole()?);
+    words.end()?;
+    let (mut shortcut, mut assignment) = (0, 0);
+    if (1..=4).contains(&rows) && (1..=4).contains(&columns) {
+        for pattern in 0..1u32 << (rows * columns) {
+            let taken = takes_shortcut(rows, columns, |i, j| pattern >> (i * columns + j) & 1 == 1);
+            *if taken { &mut shortcut } else { &mut assignment } += 1;
+        }
+    }
+    out.extend(format!("{shortcut} {assignment}\n").as_bytes());
     Ok(())
 }
 

@@ -34,8 +34,8 @@ const EDGES: [u32; 27] = [
     0x7FFF_FFFF,
 ];
 
-pub const KINDS: [&str; 10] =
-    ["floats", "matrices", "lap", "lapint", "boxes", "filter", "assoc", "states", "calls", "runs"];
+pub const KINDS: [&str; 11] =
+    ["floats", "matrices", "lap", "lapint", "boxes", "filter", "assoc", "states", "calls", "runs", "shortcuts"];
 
 /// All lines of a kind.
 pub fn lines(kind: &str, seed: u64) -> Vec<u8> {
@@ -51,6 +51,7 @@ pub fn lines(kind: &str, seed: u64) -> Vec<u8> {
         "states" => v.states(),
         "calls" => v.calls(),
         "runs" => v.runs(),
+        "shortcuts" => v.shortcuts(),
         _ => panic!("no such kind: {kind}; there are {KINDS:?}"),
     }
     v.out
@@ -340,6 +341,14 @@ impl Vectors {
             self.assoc(case, sizes);
         }
         (0..40).for_each(|case| self.crossing(case));
+    }
+
+    /// Each size of document 02, 2.14, and sizes that it leaves out.
+    fn shortcuts(&mut self) {
+        let sizes = (0..=5).flat_map(|rows| (0..=5).map(move |columns| (rows, columns)));
+        for (rows, columns) in sizes.chain([(64, 64), (4, u32::MAX), (u32::MAX, 4), (u32::MAX, u32::MAX)]) {
+            self.line(&format!("shortcuts {rows} {columns}"), &[]);
+        }
     }
 
     fn assoc_settings(&mut self) -> Vec<f32> {

@@ -388,6 +388,29 @@ static void whole_assignment(Place *pc, Place *px, Place *py)
             CHECK(cost[i * n + x[i]] + cost[k * n + x[k]] <= cost[i * n + x[k]] + cost[k * n + x[i]]);
 }
 
+/* ---- how often the shortcut runs */
+
+/* No row and no column of the pattern has more than one, and there is one. */
+static int takes_shortcut(uint64_t rows, uint64_t columns, uint64_t pattern)
+{
+    unsigned of_row[4] = {0}, of_column[4] = {0};
+    for (uint64_t k = 0; k < rows * columns; k++)
+        if (pattern >> k & 1)
+            if (++of_row[k / columns] > 1 || ++of_column[k % columns] > 1)
+                return 0;
+    return pattern != 0;
+}
+
+static void count_shortcuts(uint64_t rows, uint64_t columns)
+{
+    uint64_t shortcut = 0, assignment = 0;
+    if (rows >= 1 && rows <= 4 && columns >= 1 && columns <= 4)
+        for (uint64_t pattern = 0; pattern < (uint64_t)1 << (rows * columns); pattern++)
+            *(takes_shortcut(rows, columns, pattern) ? &shortcut : &assignment) += 1;
+    SatinjacksShortcuts r = satinjacks_shortcuts(rows, columns);
+    CHECK(r.shortcut == shortcut && r.assignment == assignment);
+}
+
 /* ---- runs: animals that walk and hide, boxes anywhere, or a flood that fills the table */
 
 typedef struct {
@@ -627,6 +650,13 @@ int main(int argc, char **argv)
     for (int k = 0; k < 6; k++)
         places[k] = place();
     names();
+    for (uint64_t rows = 0; rows <= 8; rows++)
+        for (uint64_t columns = 0; columns <= 8; columns++) {
+            count_shortcuts(rows, columns);
+            /* sizes whose low bits are these */
+            count_shortcuts((uint64_t)1 << 32 | rows, columns);
+            count_shortcuts(rows, (uint64_t)1 << 63 | columns);
+        }
     static Run runs[RUNS];
     for (int k = 0; k < RUNS; k++)
         begin(&runs[k]);

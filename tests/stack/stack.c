@@ -56,6 +56,12 @@ static void *assign_whole(void *unused)
     return unused;
 }
 
+static void *count_shortcuts(void *unused)
+{
+    refusal = satinjacks_shortcuts(4, 4).shortcut == 208 ? SATINJACKS_ACCEPTED : 1;
+    return unused;
+}
+
 static size_t needed(void *(*call)(void *))
 {
     pthread_attr_t attributes;
@@ -123,5 +129,6 @@ int main(void)
         whole = larger(whole, needed(assign_whole) - empty);
     }
     printf("satinjacks_assign: %zu\nsatinjacks_assign_whole: %zu\n", floats, whole);
+    printf("satinjacks_shortcuts: %zu\n", needed(count_shortcuts) - empty);
     return 0;
 }

@@ -71,6 +71,14 @@ struct SettingsImage {
     use_byte: u32,
 }
 
+/// Of all patterns of a size, those that take the shortcut of the pairing and those that go to the assignment.
+#[repr(C)]
+#[derive(Clone, Copy, Debug, PartialEq, Eq)]
+pub struct Shortcuts {
+    pub shortcut: u64,
+    pub assignment: u64,
+}
+
 #[repr(C)]
 struct Reply {
     number: u64,
@@ -114,6 +122,7 @@ extern "C" {
         y: *mut i64,
         y_len: usize,
     ) -> u64;
+    fn satinjacks_shortcuts(rows: u64, columns: u64) -> Shortcuts;
 }
 
 /// A tracker, its state on the heap.
@@ -265,4 +274,19 @@ pub fn assign_whole(n: usize, costs: &[i64], rows: &mut [i64], columns: &mut [i6
         )
     };
     Refusal::of(number).map_or(Ok(()), Err)
+}
+
+/// Of all patterns of overlaps above the threshold, `rows` by `columns`, how many take the shortcut of the pairing (no row and
+/// no column has more than one, and there is one) and how many go to the assignment. 1 to 4 rows by 1 to 4 columns; any other
+/// size gives 0 and 0.
+///
+/// ```
+/// use satinjacks::{shortcuts, Shortcuts};
+///
+/// assert_eq!(shortcuts(3, 3), Shortcuts { shortcut: 33, assignment: 479 });
+/// assert_eq!(shortcuts(5, 1), Shortcuts { shortcut: 0, assignment: 0 });
+/// ```
+pub fn shortcuts(rows: u64, columns: u64) -> Shortcuts {
+    // SAFETY: the call takes and gives numbers alone, and takes any.
+    unsafe { satinjacks_shortcuts(rows, columns) }
 }

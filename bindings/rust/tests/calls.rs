@@ -1,5 +1,7 @@
 //! Document 01's cases through the library, and that a refusal writes nothing.
-use satinjacks::{assign, assign_whole, BoxImage, Detection, Refusal, Settings, Track, Tracker, TrackerImage};
+use satinjacks::{
+    assign, assign_whole, shortcuts, BoxImage, Detection, Refusal, Settings, Shortcuts, Track, Tracker, TrackerImage,
+};
 
 const DEFAULTS: Settings = Settings {
     det_thresh: 0.5,
@@ -195,5 +197,16 @@ fn a_small_stack_suffices() {
     };
     for stack in [2 << 20, 1 << 19] {
         std::thread::Builder::new().stack_size(stack).spawn(run).unwrap().join().unwrap();
+    }
+}
+
+/// Document 02's four sizes, and sizes that it leaves out.
+#[test]
+fn shortcut_counts() {
+    for (rows, columns, shortcut, assignment) in [(1, 2, 2, 2), (2, 2, 6, 10), (3, 3, 33, 479), (4, 4, 208, 65_328)] {
+        assert_eq!(shortcuts(rows, columns), Shortcuts { shortcut, assignment });
+    }
+    for (rows, columns) in [(0, 1), (1, 0), (4, 5), (5, 4), (1, u64::MAX), (u64::MAX, 1)] {
+        assert_eq!(shortcuts(rows, columns), Shortcuts { shortcut: 0, assignment: 0 });
     }
 }

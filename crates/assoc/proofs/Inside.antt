@@ -22,6 +22,7 @@ use Rattle.matching.specs.Associate.{overlaps, angleTerm, combined}
 use Rattle.matching.specs.Paired.{Paired}
 use Rattle.matching.specs.Matching.{Matrix, aboveOf, countOf, fullest, shortcut, passing, larger, costsOf, someAbove, assigned, keptWhere}
 use Rattle.matching.specs.Cells.{overlapCells, entryAt}
+use Rattle.matching.proofs.Counting.{count-same, fullest-same}
 use Rattle.matching.proofs.Loops.{cell-inside}
 use Rattle.matching.proofs.Rows.{row-of, column-of}
 
@@ -45,15 +46,7 @@ pub combined-cells : (inertia : Float) (nd nt : ℕ) (det : ℕ → Detection) (
 unfolding combined
 combined-cells inertia nd nt det box direction previous rest i j h g = ap (λ (o : Float). add binary32 o (angleTerm inertia (det i) (direction j) (previous j))) (entry-cells nd nt (overlaps det box) rest i j h g)
 
--- ---- the largest of counts, and the last that passes
-
-count-same : (p q : ℕ → Bool) (n : ℕ) → ((j : ℕ) → j < n → p j ≡ q j) → countOf p n ≡ countOf q n
-count-same p q zero h = refl
-count-same p q (suc n) h = ap₂ (λ (k : ℕ) (b : Bool). k + pick b 1 0) (count-same p q n (λ j l. h j (omega (arith, l)))) (h n (lt-suc-self n))
-
-fullest-same : (f g : ℕ → ℕ) (n : ℕ) → ((i : ℕ) → i < n → f i ≡ g i) → fullest f n ≡ fullest g n
-fullest-same f g zero h = refl
-fullest-same f g (suc n) h = ap₂ larger (fullest-same f g n (λ i l. h i (omega (arith, l)))) (h n (lt-suc-self n))
+-- ---- the last that passes
 
 last-same : (p q : ℕ → Bool) (n : ℕ) → ((j : ℕ) → j < n → p j ≡ q j) → passing p n ≡ passing q n
 last-same p q zero h = refl

@@ -23,8 +23,9 @@ use Rattle.pair.specs.Angle.{Step}
 use Rattle.matching.specs.Matching.{Matrix, Pattern, aboveOf, countOf, fullest, shortcut, passing, larger, costsOf, within, assigned, keptWhere, matchOrLapjv, matched, rematched, someAbove, laterRound}
 use Rattle.matching.specs.Associate.{overlaps, combined, associate, reassociate}
 use Rattle.matching.specs.Paired.{Paired, Fair}
+use Rattle.matching.proofs.Counting.{fullest-most}
 use Rattle.assign.proofs.Marking.{larger-left}
-use Rattle.assoc.proofs.Counts.{fullest-most, only-one, passing-is}
+use Rattle.assoc.proofs.Counts.{only-one, passing-is}
 use Rattle.assoc.proofs.AtOrAbove.{kept-pair}
 
 -- a mark taken where a test passed

@@ -16,6 +16,7 @@ use Rattle.lapjv_walk.specs.Marks.{isFree, index, markAt}
 use Rattle.lapjv_walk.proofs.Cases.{never, not-both}
 use Rattle.matching.specs.Matching.{countOf}
 use Rattle.matching.specs.Paired.{Paired}
+use Rattle.matching.proofs.Counting.{count-none}
 use Rattle.matching.specs.Split.{Match, names, named, matchesOf, unmatchedDets, unmatchedTrks, times, Parts, Split}
 
 -- ---- the numbers below n
@@ -79,10 +80,6 @@ names-is (pos k) j e = ap pos (eqb-true k j e)
 names-is (negsuc n) j e = never e
 
 module _ (p : ℕ → Bool) where
-  count-none : (n : ℕ) → ((i : ℕ) → i < n → p i ≡ false) → countOf p n ≡ 0
-  count-none zero h = refl
-  count-none (suc n) h = rw (h n (lt-suc-self n)) (omega (arith, count-none n (λ i l. h i (omega arith))))
-
   count-few : (n : ℕ) → ((i k : ℕ) → i < n → k < n → p i ≡ true → p k ≡ true → i ≡ k) → countOf p n ≤ 1
   count-few zero h = omega arith
   count-few (suc n) h = go (p n) refl (count-few n (λ i k a b. h i k (omega arith) (omega arith)))
@@ -92,7 +89,7 @@ module _ (p : ℕ → Bool) where
       other e i l false f = refl
 
       go : (b : Bool) → p n ≡ b → countOf p n ≤ 1 → countOf p n + pick b 1 0 ≤ 1
-      go true e ih = omega (arith, count-none n (λ i l. other e i l (p i) refl))
+      go true e ih = omega (arith, count-none p n (λ i l. other e i l (p i) refl))
       go false e ih = omega arith
 
   count-some : {X : Type 0} (n : ℕ) → 0 < countOf p n → ((i : ℕ) → i < n → p i ≡ true → X) → X

@@ -2,6 +2,7 @@
 use frame::Settings;
 use lapjv::Assigned;
 use making::SettingsImage;
+use shortcut_counts::Tally;
 use views::Views;
 ghost use mathlib.Core.Path.{_≡_};
 ghost use mathlib.Core.Bool.{_&&_};
@@ -12,6 +13,7 @@ ghost use Rattle.lapjv.specs.Answer.{Answer, numberOf};
 ghost use Rattle.lapint.specs.Answer.{WholeAnswer};
 ghost use Rattle.oc_sort_tracker.specs.New.{defaults};
 ghost use Rattle.making.specs.Making.{freshOf, freshWith, begun};
+ghost use Rattle.shortcut_counts.specs.Counted.{Counted};
 ghost use Rattle.host.specs.Host.{Hosted};
 
 // The refusal's number, or 0, and how many reports stand in the buffers.
@@ -233,4 +235,14 @@ pub extern "C" fn satinjacks_assign_whole(
     ensures { λ r. ⌜ ((a : Assigned) × ((r ≡ numberOf a) × WholeAnswer n (now (cost .entry)) (now (x .entry)) (now (y .entry)) a (now (x .exit)) (now (y .exit)))) ⌝ }
 {
     lapjv::told(lapint::lapint(n, cost, x, y))
+}
+
+// ---- how often the shortcut runs
+
+// Of all patterns of 1 to 4 rows by 1 to 4 columns, those that take the shortcut and those that go to the assignment; 0 and 0 for any other size.
+#[no_mangle]
+pub extern "C" fn satinjacks_shortcuts(rows: u64, columns: u64) -> Tally
+    ensures { λ r. ⌜ Counted rows columns (r .shortcut) (r .assignment) ⌝ }
+{
+    shortcut_counts::shortcuts(rows, columns)
 }

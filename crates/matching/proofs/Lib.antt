@@ -1,3 +1,4 @@
+pub mod Counting
 pub mod Loops
 pub mod Rows
 pub mod Kept

@@ -40,15 +40,15 @@ use Rattle.frame.proofs.Rules.{state-rules}
 use Rattle.frame.proofs.StaysSound.{live-of}
 use Rattle.frame.proofs.Contract.{made-by, framed-by}
 use Rattle.oc_sort_tracker.specs.New.{defaults}
-use Rattle.run.specs.Book.{Stamped, Line, miss, box, Entry, Book, noneYet, live, bookState, breakEntry, trackOf, roundsOf, entered, enterAt, enter}
-use Rattle.run.specs.Claim.{inputOf, isAt, inLine, timesWritten, boxesOf, Overlapped, Because}
-use Rattle.run.specs.Laws.{PlacedAt, Placed, Genuine, Tidy, Laws}
+use Rattle.run_book.specs.Book.{Stamped, Line, miss, box, Entry, Book, noneYet, live, bookState, breakEntry, trackOf, roundsOf, entered, enterAt, enter}
+use Rattle.run_book.specs.Claim.{inputOf, isAt, inLine, timesWritten, boxesOf, Overlapped, Because}
+use Rattle.run_book.specs.Laws.{PlacedAt, Placed, Genuine, Tidy, Laws}
 use Rattle.run.specs.Lent as lent-call
 use Rattle.run.specs.Run.{Seen, seenOf, seenIn, Event, frame, Run, made-new, made-with, called, lent, Brought, broughtTo, callSeen, bookOf, bookReply, Gave, Answered, withInput, acceptedInputs, inputAt, Histories, Holds, EveryRun}
-use Rattle.run.proofs.Sim.{outOf, alike}
-use Rattle.run.proofs.Laws.{at-first}
-use Rattle.run.proofs.Lines.{LivedEntry, Spanned}
-use Rattle.run.proofs.Accepted.{refused-accepted, kept-laws, enter-grown}
+use Rattle.run_book.proofs.Sim.{outOf, alike}
+use Rattle.run_book.proofs.Laws.{at-first}
+use Rattle.run_book.proofs.Lines.{LivedEntry, Spanned}
+use Rattle.run_book.proofs.Accepted.{refused-accepted, kept-laws, enter-grown}
 
 -- ---- what the contracts say
 

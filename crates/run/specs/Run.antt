@@ -32,9 +32,9 @@ use Rattle.frame.specs.State.{inRange}
 use Rattle.frame.specs.Objects.{detectionAt, firstScore, spareScore}
 use Rattle.frame.specs.Frame.{Call, Reply, boxesAfter, idsAfter}
 use Rattle.frame.specs.Contract.{toldOf, numberIn, outcomeOf, reportsIn, callOf}
-use Rattle.run.specs.Book.{Stamped, Entry, Book, noneYet, live, trackOf, bookState, enter}
-use Rattle.run.specs.Claim.{inputOf, timesWritten, boxesOf, boxesInFrame, Overlapped, Spans, LineFrames, Because, Lived, Grown}
-use Rattle.run.specs.Laws.{scoreAt}
+use Rattle.run_book.specs.Book.{Stamped, Entry, Book, noneYet, live, trackOf, bookState, enter}
+use Rattle.run_book.specs.Claim.{inputOf, timesWritten, boxesOf, boxesInFrame, Overlapped, Spans, LineFrames, Because, Lived, Grown}
+use Rattle.run_book.specs.Laws.{scoreAt}
 use Rattle.run.specs.Lent as lent-call
 
 -- ---- runs

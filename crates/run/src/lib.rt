@@ -1,4 +1,4 @@
-// The book of a run, and the claim about every list of calls.
+// The claim about every list of calls.
 ghost use Rattle.run.specs.Run.{EveryRun};
 
 // Does nothing, and ensures the claim.

@@ -9,9 +9,9 @@ use Rattle.lists.specs.Lists.{All}
 use Rattle.frame.specs.declared.Settings.{Settings}
 use Rattle.frame.specs.Objects.{Obj}
 use Rattle.frame.specs.Rounds.{Grant}
-use Rattle.run.specs.Book.{Line, Status, open′, broken, agedOut, Entry, isOpen, closedBy, withStatus, breaks, breakEntry, isOld, ageEntry, nextLine, withLine, opened}
-use Rattle.run.specs.Claim.{lastFrame, Spans, LineFrames, Because, Lived}
-use Rattle.run.proofs.Writing.{shut, Current}
+use Rattle.run_book.specs.Book.{Line, Status, open′, broken, agedOut, Entry, isOpen, closedBy, withStatus, breaks, breakEntry, isOld, ageEntry, nextLine, withLine, opened}
+use Rattle.run_book.specs.Claim.{lastFrame, Spans, LineFrames, Because, Lived}
+use Rattle.run_book.proofs.Writing.{shut, Current}
 
 pub all-both : {A : Type 0} (P Q : A → Type 0) (xs : List A) → All P xs → All Q xs → All (λ x. P x × Q x) xs
 all-both P Q [] a b = tt

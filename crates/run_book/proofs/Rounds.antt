@@ -26,7 +26,7 @@ use Rattle.frame.specs.declared.Settings.{Settings}
 use Rattle.frame.specs.State.{inRange, unitRange}
 use Rattle.frame.specs.Objects.{Obj, firstClass, spares, firstScore, spareScore}
 use Rattle.frame.specs.Rounds.{View, Grant, Slot, Work, emptySlot, noView, noCorners, noObj, slotAt, viewAt, detOf, unlessGranted, openFrom, placeOf, firstRound, laterRound, rounds, firstMarks}
-use Rattle.run.specs.Claim.{Meets, targetOf}
+use Rattle.run_book.specs.Claim.{Meets, targetOf}
 use Rattle.frame.proofs.Seats.{Unnamed, Seats, Fairly, seat-views, seat-fairly, slot-weight, seat-weight, seat-keeps, GotSlot, seat-from, left-from}
 
 -- ---- from marks by index to seats in turn

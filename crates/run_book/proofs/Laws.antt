@@ -14,12 +14,12 @@ use Rattle.lists.proofs.All.{all-map, all-any, sum-append, sum-map, sum-zero}
 use Rattle.frame.specs.declared.Settings.{Settings}
 use Rattle.frame.specs.Objects.{Obj, detectionAt}
 use Rattle.frame.specs.Rounds.{View, Grant, Slot, Work}
-use Rattle.run.specs.Book.{Stamped, Line, Status, open′, broken, agedOut, Entry, noneYet, live, closedBy, withStatus, breaks, breakEntry, isOld, ageEntry, viewOfEntry, nextLine, withLine, write, opened, entriesAfter}
-use Rattle.run.specs.Claim.{inputOf, inEntry, timesWritten, boxesOf, ofFrame, lineOfFrame, boxesInFrame, Meets, Overlapped, Because}
-use Rattle.run.specs.Laws.{PlacedAt, Placed, Genuine, Tidy, Laws}
+use Rattle.run_book.specs.Book.{Stamped, Line, Status, open′, broken, agedOut, Entry, noneYet, live, closedBy, withStatus, breaks, breakEntry, isOld, ageEntry, viewOfEntry, nextLine, withLine, write, opened, entriesAfter}
+use Rattle.run_book.specs.Claim.{inputOf, inEntry, timesWritten, boxesOf, ofFrame, lineOfFrame, boxesInFrame, Meets, Overlapped, Because}
+use Rattle.run_book.specs.Laws.{PlacedAt, Placed, Genuine, Tidy, Laws}
 use Rattle.frame.proofs.Seats.{Passed, got-weight, slot-weight, Got}
-use Rattle.run.proofs.Writing.{hit, count-write, count-opened}
-use Rattle.run.proofs.Places.{at, OfInput}
+use Rattle.run_book.proofs.Writing.{hit, count-write, count-opened}
+use Rattle.run_book.proofs.Places.{at, OfInput}
 
 pub at-first : (s : Settings) → Laws s noneYet
 unfolding timesWritten

@@ -33,7 +33,7 @@ use Rattle.frame.specs.State.{inRange, unitRange, stateOf, stateRules}
 use Rattle.frame.specs.Objects.{Obj, objectsOf}
 use Rattle.frame.specs.Rounds.{View, Grant, Slot, Work, rounds}
 use Rattle.frame.specs.Frame.{Call, reports, Out, early, detectionOr, stepOr, viewOf, trackedView, withTrack, predictTracked, unbroken, predictedTracks, give, giveAll, births, isReported, reportOf, snocIf, reportsOf, isYoung, settled, acceptedFrame, frameAt, frameOf}
-use Rattle.run.specs.Book.{box, Status, open′, broken, agedOut, Entry, Book, lineOf, replayed, trackOf, isOpen, live, bookState, closedBy, withStatus, breaks, breakEntry, isOld, ageEntry, viewOfEntry, nextLine, withLine, written, write, opened, entered, roundsOf, enterAt, enter}
+use Rattle.run_book.specs.Book.{box, Status, open′, broken, agedOut, Entry, Book, lineOf, replayed, trackOf, isOpen, live, bookState, closedBy, withStatus, breaks, breakEntry, isOld, ageEntry, viewOfEntry, nextLine, withLine, written, write, opened, entered, roundsOf, enterAt, enter}
 use Rattle.frame.proofs.StaysSound.{live-of}
 use Rattle.frame.proofs.Seats.{rounds-length}
 use Rattle.lapjv_walk.proofs.Cases.{and-right}

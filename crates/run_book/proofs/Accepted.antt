@@ -22,17 +22,17 @@ use Rattle.frame.specs.Objects.{Obj, detectionAt, objectsOf, firstScore, spareS
 use Rattle.frame.specs.Rounds.{View, Slot, Work}
 use Rattle.frame.specs.Frame.{Call, early}
 use Rattle.frame.specs.Contract.{outcomeOf}
-use Rattle.run.specs.Book.{broken, agedOut, Entry, Book, live, closedBy, breaks, breakEntry, isOld, ageEntry, viewOfEntry, nextLine, write, opened, entriesAfter, entered, roundsOf, enterAt, enter}
-use Rattle.run.specs.Claim.{timesWritten, boxesOf, Meets, Because, Grown}
-use Rattle.run.specs.Laws.{scoreAt, PlacedAt, Tidy, Laws}
+use Rattle.run_book.specs.Book.{broken, agedOut, Entry, Book, live, closedBy, breaks, breakEntry, isOld, ageEntry, viewOfEntry, nextLine, write, opened, entriesAfter, entered, roundsOf, enterAt, enter}
+use Rattle.run_book.specs.Claim.{timesWritten, boxesOf, Meets, Because, Grown}
+use Rattle.run_book.specs.Laws.{scoreAt, PlacedAt, Tidy, Laws}
 use Rattle.frame.proofs.Seats.{rounds-length, Fairly, slot-weight, GotSlot}
 use Rattle.lapjv_walk.proofs.Cases.{never}
-use Rattle.run.proofs.Rounds.{byteObjects, rounds-views, rounds-fairly, rounds-weight, rounds-from}
-use Rattle.run.proofs.Sim.{write-length, opened-length}
-use Rattle.run.proofs.Writing.{write-all, ids, ids-status, ids-write, ids-opened, hit, grown-write, born-opened}
-use Rattle.run.proofs.Lines.{all-both, LivedEntry, Fit, fit-break, fit-line, lived-opened, Spanned, BetweenEntry, span-break, span-stays, span-line, span-age, span-opened, all-current}
-use Rattle.run.proofs.Places.{at, sum-places, OfInput, objects-of-input}
-use Rattle.run.proofs.Laws.{Over, over-line, over-opened, tidy-line, tidy-more, tidy-opened, tidy-status, ShutEntry, shut-break, shut-age, shut-line, shut-opened, GenuineEntry, all-genuine-more, genuine-line, genuine-opened, written-after, hit-now, written-other, written-status, placed-old}
+use Rattle.run_book.proofs.Rounds.{byteObjects, rounds-views, rounds-fairly, rounds-weight, rounds-from}
+use Rattle.run_book.proofs.Sim.{write-length, opened-length}
+use Rattle.run_book.proofs.Writing.{write-all, ids, ids-status, ids-write, ids-opened, hit, grown-write, born-opened}
+use Rattle.run_book.proofs.Lines.{all-both, LivedEntry, Fit, fit-break, fit-line, lived-opened, Spanned, BetweenEntry, span-break, span-stays, span-line, span-age, span-opened, all-current}
+use Rattle.run_book.proofs.Places.{at, sum-places, OfInput, objects-of-input}
+use Rattle.run_book.proofs.Laws.{Over, over-line, over-opened, tidy-line, tidy-more, tidy-opened, tidy-status, ShutEntry, shut-break, shut-age, shut-line, shut-opened, GenuineEntry, all-genuine-more, genuine-line, genuine-opened, written-after, hit-now, written-other, written-status, placed-old}
 
 pub refused-accepted : {A : Type 0} (r : Refusal) → _≡_ {A = Outcome} (Refused r) Accepted → A
 refused-accepted r e = absurd (let z : _≡_ {A = ℕ} 0 1 = cc in omega arith)

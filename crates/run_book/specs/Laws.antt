@@ -10,8 +10,8 @@ use lib.ListN.{length, getD}
 use Rattle.lists.specs.Lists.{upFrom, All}
 use Rattle.frame.specs.declared.Settings.{Settings}
 use Rattle.frame.specs.Objects.{detectionAt, firstScore, spareScore}
-use Rattle.run.specs.Book.{Stamped, Entry, Book}
-use Rattle.run.specs.Claim.{inputOf, timesWritten, boxesOf, boxesInFrame, Overlapped, Spans, LineFrames, Because, Lived}
+use Rattle.run_book.specs.Book.{Stamped, Entry, Book}
+use Rattle.run_book.specs.Claim.{inputOf, timesWritten, boxesOf, boxesInFrame, Overlapped, Spans, LineFrames, Because, Lived}
 
 -- the score of the object at place p
 abbrev pub scoreAt : List Float → ℕ → Float

@@ -13,7 +13,7 @@ use Rattle.pair.specs.Overlap.{overlapOf}
 use Rattle.frame.specs.declared.Settings.{Settings}
 use Rattle.frame.specs.Objects.{Obj}
 use Rattle.frame.specs.Rounds.{View}
-use Rattle.run.specs.Book.{Stamped, Line, miss, box, Status, open′, broken, agedOut, Entry, viewOfEntry, breaks, isOld}
+use Rattle.run_book.specs.Book.{Stamped, Line, miss, box, Status, open′, broken, agedOut, Entry, viewOfEntry, breaks, isOld}
 
 -- ---- objects
 

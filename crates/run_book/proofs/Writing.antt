@@ -13,8 +13,8 @@ use Rattle.lists.proofs.All.{all-map}
 use Rattle.frame.specs.declared.Settings.{Settings}
 use Rattle.frame.specs.Objects.{Obj}
 use Rattle.frame.specs.Rounds.{Grant, Slot}
-use Rattle.run.specs.Book.{Line, Status, open′, broken, agedOut, Entry, isOpen, live, closedBy, withStatus, breaks, breakEntry, isOld, ageEntry, viewOfEntry, nextLine, withLine, written, write, opened}
-use Rattle.run.specs.Claim.{isAt, inLine, inEntry, lastFrame, OneLine, Goes, Later, Grown}
+use Rattle.run_book.specs.Book.{Line, Status, open′, broken, agedOut, Entry, isOpen, live, closedBy, withStatus, breaks, breakEntry, isOld, ageEntry, viewOfEntry, nextLine, withLine, written, write, opened}
+use Rattle.run_book.specs.Claim.{isAt, inLine, inEntry, lastFrame, OneLine, Goes, Later, Grown}
 use Rattle.frame.proofs.Seats.{got-weight, slot-weight}
 
 pub shut : {A : Type 0} (q : Status) → isOpen q ≡ false → q ≡ open′ → A
