@@ -140,8 +140,8 @@ module _ (f : ℕ → Bool) where
       go false e (inl q) ih = rw q (ap (λ (z : ℕ). hasBit z n) (zero-add (numberWith n)) ∙ ap (λ (z : ℕ). eqb z 1) (bit-above (numberWith n) n (with-small n)) ∙ sym e)
       go false e (inr l) ih = ap (λ (z : ℕ). hasBit z k) (zero-add (numberWith n)) ∙ ih l
 
-pub same-bits : (n a b : ℕ) → a < 2 ^ n → b < 2 ^ n → ((k : ℕ) → k < n → bitAt a k ≡ bitAt b k) → a ≡ b
-same-bits zero a b h g s = omega arith
-same-bits (suc n) a b h g s =
-    let e : a / 2 ≡ b / 2 = same-bits n (a / 2) (b / 2) (omega (arith, h, pow-suc 2 n)) (omega (arith, g, pow-suc 2 n)) (λ k l. sym (bit-suc a k) ∙ s (suc k) (omega (arith, l)) ∙ bit-suc b k) in
+pub digits-tell : (n a b : ℕ) → a < 2 ^ n → b < 2 ^ n → ((k : ℕ) → k < n → bitAt a k ≡ bitAt b k) → a ≡ b
+digits-tell zero a b h g s = omega arith
+digits-tell (suc n) a b h g s =
+    let e : a / 2 ≡ b / 2 = digits-tell n (a / 2) (b / 2) (omega (arith, h, pow-suc 2 n)) (omega (arith, g, pow-suc 2 n)) (λ k l. sym (bit-suc a k) ∙ s (suc k) (omega (arith, l)) ∙ bit-suc b k) in
     omega (arith, e, sym (bit-first a) ∙ s 0 (omega arith) ∙ bit-first b)

@@ -9,7 +9,7 @@ use Rattle.matching.specs.Matching.{Pattern}
 use Rattle.matching.proofs.Loops.{cell-inside}
 use Rattle.matching.proofs.Rows.{row-of, column-of}
 use Rattle.shortcut_counts.specs.Counted.{hasBit, patternOf, SameTable, EachOnce}
-use Rattle.shortcut_counts.proofs.Bits.{pick-bit, numberWith, with-small, with-bit, same-bits}
+use Rattle.shortcut_counts.proofs.Bits.{pick-bit, numberWith, with-small, with-bit, digits-tell}
 
 numbered : (r c : ℕ) (p : Pattern) → (b : ℕ) × ((b < 2 ^ (r * c)) × SameTable r c (patternOf c b) p)
 numbered r c p =
@@ -22,7 +22,7 @@ in-table r zero k h = absurd (omega arith)
 in-table r (suc c) k h = (div-lt-iff-lt-mul (zero-lt-suc c) .1 h, mod-lt k (zero-lt-suc c))
 
 distinct : (r c a b : ℕ) → a < 2 ^ (r * c) → b < 2 ^ (r * c) → SameTable r c (patternOf c a) (patternOf c b) → a ≡ b
-distinct r c a b h g s = same-bits (r * c) a b h g (λ k l. sym (pick-bit a k) ∙ ap (λ t. pick t 1 0) (cell k l) ∙ pick-bit b k)
+distinct r c a b h g s = digits-tell (r * c) a b h g (λ k l. sym (pick-bit a k) ∙ ap (λ t. pick t 1 0) (cell k l) ∙ pick-bit b k)
   where
     cell : (k : ℕ) → k < r * c → hasBit a k ≡ hasBit b k
     cell k l = subst (λ (z : ℕ). hasBit a z ≡ hasBit b z) (div-add-mod' k c) (s (k / c) (k % c) (in-table r c k l .0) (in-table r c k l .1))

@@ -15,7 +15,7 @@ use Rattle.shortcut_counts.specs.Counted.{bitAt, hasBit, patternOf, patt
 use Rattle.shortcut_counts.specs.Placements.{isPlacement, placements}
 use Rattle.shortcut_counts.proofs.Sums.{sumBelow, sums-same, sums-blocks, count-sum, count-front, count-and, fullest-front, fullest-below}
 use Rattle.shortcut_counts.proofs.Bits.{bit-high, bit-low, bit-zero, bit-small, bit-add, bit-power, pick-bit}
-use Rattle.shortcut_counts.proofs.OneRow.{ones, rowSum, rowSum-one}
+use Rattle.shortcut_counts.proofs.OneRow.{rowCount, rowSum, rowSum-one}
 
 -- ---- a pattern of n + 1 rows: its first row is w, and q has the others
 
@@ -36,7 +36,7 @@ module _ (c q w : ℕ) (h : w < 2 ^ c) where
       next-row c i j = omega arith
 
   -- the fullest row: the first, and the others
-  pub rows-joined : (n k : ℕ) → leb (fullest (λ i. countOf (λ j. joined i j) c) (suc n)) k ≡ (leb (ones c w) k && leb (fullest (λ i. countOf (λ j. patternOf c q i j) c) n) k)
+  pub rows-joined : (n k : ℕ) → leb (fullest (λ i. countOf (λ j. joined i j) c) (suc n)) k ≡ (leb (rowCount c w) k && leb (fullest (λ i. countOf (λ j. patternOf c q i j) c) n) k)
   rows-joined n k =
       fullest-front (λ i. countOf (λ j. joined i j) c) n k
       ∙ ap₂ (λ (a b : ℕ). leb a k && leb b k)
@@ -50,26 +50,26 @@ module _ (c q w : ℕ) (h : w < 2 ^ c) where
       let f : pick (joined 0 j) 1 0 ≡ bitAt w j = ap (λ (t : Bool). pick t 1 0) (first-row j l) ∙ pick-bit w j in
       omega (arith, count-front (λ i. joined i j) n, e, f)
 
-  placement-joined : (n : ℕ) (had : ℕ → ℕ) → isPlacement (suc n) c had joined ≡ (leb (ones c w) 1 && isPlacement n c (λ j. had j + bitAt w j) (patternOf c q))
+  placement-joined : (n : ℕ) (had : ℕ → ℕ) → isPlacement (suc n) c had joined ≡ (leb (rowCount c w) 1 && isPlacement n c (λ j. had j + bitAt w j) (patternOf c q))
   unfolding isPlacement
   placement-joined n had =
       ap₂ _&&_ (rows-joined n 1) (ap (λ (z : ℕ). leb z 1) (fullest-same (λ j. had j + countOf (λ i. joined i j) (suc n)) (λ j. (had j + bitAt w j) + countOf (λ i. patternOf c q i j) n) c (column-joined n had)))
-      ∙ and-assoc (leb (ones c w) 1) (leb (fullest (λ i. countOf (λ j. patternOf c q i j) c) n) 1) (leb (fullest (λ j. (had j + bitAt w j) + countOf (λ i. patternOf c q i j) n) c) 1)
+      ∙ and-assoc (leb (rowCount c w) 1) (leb (fullest (λ i. countOf (λ j. patternOf c q i j) c) n) 1) (leb (fullest (λ j. (had j + bitAt w j) + countOf (λ i. patternOf c q i j) n) c) 1)
 
 -- ---- all patterns of n + 1 rows
 
 -- a test that asks for at most k in the first row, and for something of the others
-pub all-joined : (n c k : ℕ) (test : ℕ → Bool) (rest : ℕ → ℕ → Bool) → ((q w : ℕ) → w < 2 ^ c → test (q * 2 ^ c + w) ≡ (leb (ones c w) k && rest w q))
+pub count-joined : (n c k : ℕ) (test : ℕ → Bool) (rest : ℕ → ℕ → Bool) → ((q w : ℕ) → w < 2 ^ c → test (q * 2 ^ c + w) ≡ (leb (rowCount c w) k && rest w q))
     → countOf test (2 ^ (suc n * c)) ≡ rowSum k c (λ w. countOf (rest w) (2 ^ (n * c)))
-all-joined n c k test rest h =
+count-joined n c k test rest h =
     ap (countOf test) (ap (λ (z : ℕ). 2 ^ z) (suc-mul n c) ∙ pow-add 2 (n * c) c)
     ∙ count-sum test (2 ^ (n * c) * 2 ^ c)
     ∙ sums-blocks (λ b. pick (test b) 1 0) (2 ^ (n * c)) (2 ^ c)
-    ∙ sums-same (λ w. sumBelow (λ q. pick (test (q * 2 ^ c + w)) 1 0) (2 ^ (n * c))) (λ w. pick (leb (ones c w) k) (countOf (rest w) (2 ^ (n * c))) 0) (2 ^ c)
+    ∙ sums-same (λ w. sumBelow (λ q. pick (test (q * 2 ^ c + w)) 1 0) (2 ^ (n * c))) (λ w. pick (leb (rowCount c w) k) (countOf (rest w) (2 ^ (n * c))) 0) (2 ^ c)
     (λ w l.
     sym (count-sum (λ q. test (q * 2 ^ c + w)) (2 ^ (n * c)))
-    ∙ count-same (λ q. test (q * 2 ^ c + w)) (λ q. leb (ones c w) k && rest w q) (2 ^ (n * c)) (λ q _. h q w l)
-    ∙ count-and (leb (ones c w) k) (rest w) (2 ^ (n * c)))
+    ∙ count-same (λ q. test (q * 2 ^ c + w)) (λ q. leb (rowCount c w) k && rest w q) (2 ^ (n * c)) (λ q _. h q w l)
+    ∙ count-and (leb (rowCount c w) k) (rest w) (2 ^ (n * c)))
 
 -- ---- what the columns had
 
@@ -97,7 +97,7 @@ having-none n c u j l h = count-none (λ b. isPlacement n c u (patternOf c b)) (
 
 having-more : (n c : ℕ) (u : ℕ → ℕ) → having (suc n) c u ≡ having n c (λ k. u k + bitAt 0 k) + sumBelow (λ j. having n c (λ k. u k + bitAt (2 ^ j) k)) c
 having-more n c u =
-    all-joined n c 1 (λ b. isPlacement (suc n) c u (patternOf c b)) (λ w q. isPlacement n c (λ k. u k + bitAt w k) (patternOf c q)) (λ q w l. placement-joined c q w l n u)
+    count-joined n c 1 (λ b. isPlacement (suc n) c u (patternOf c b)) (λ w q. isPlacement n c (λ k. u k + bitAt w k) (patternOf c q)) (λ q w l. placement-joined c q w l n u)
     ∙ rowSum-one c (λ w. having n c (λ k. u k + bitAt w k))
 
 -- ---- the law

@@ -18,7 +18,7 @@ use Rattle.shortcut_counts.specs.Placements.{isPlacement, placements}
 use Rattle.shortcut_counts.proofs.Sums.{sumBelow, sums-same, count-add, count-rest, fullest-zero}
 use Rattle.shortcut_counts.proofs.Bits.{bit-zero}
 use Rattle.shortcut_counts.proofs.OneRow.{rowSum-none}
-use Rattle.shortcut_counts.proofs.Placing.{rows-joined, all-joined, placements-none, placements-more}
+use Rattle.shortcut_counts.proofs.Placing.{rows-joined, count-joined, placements-none, placements-more}
 
 -- ---- where no row has one, no column has
 
@@ -64,7 +64,7 @@ shortcut-or-empty r c p =
 one-empty : (r c : ℕ) → patternsWhere r c (λ p. isEmpty r c p) ≡ 1
 one-empty zero c = ap (λ (z : ℕ). countOf (λ b. isEmpty 0 c (patternOf c b)) (2 ^ z)) (zero-mul c)
 one-empty (suc n) c =
-    all-joined n c 0 (λ b. isEmpty (suc n) c (patternOf c b)) (λ _ q. isEmpty n c (patternOf c q)) (λ q w l. rows-joined c q w l n 0)
+    count-joined n c 0 (λ b. isEmpty (suc n) c (patternOf c b)) (λ _ q. isEmpty n c (patternOf c q)) (λ q w l. rows-joined c q w l n 0)
     ∙ rowSum-none c (λ _. patternsWhere n c (λ p. isEmpty n c p))
     ∙ one-empty n c
 

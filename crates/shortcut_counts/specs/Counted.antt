@@ -21,6 +21,7 @@ hasBit b k = eqb (bitAt b k) 1
 abbrev pub patternOf : ℕ → ℕ → Pattern
 patternOf c b i j = hasBit b (i * c + j)
 
+-- alike in all r by c cells
 abbrev pub SameTable : ℕ → ℕ → Pattern → Pattern → Type 0
 SameTable r c p q = (i j : ℕ) → i < r → j < c → p i j ≡ q i j
 

@@ -65,12 +65,12 @@ pub fn shortcuts(rows: u64, columns: u64) -> Tally
     }
 }
 
-// There is nothing to do: that what is counted is each pattern once is this contract,
+// Does nothing, and ensures that each pattern is counted once.
 pub fn each_pattern_once()
     ensures { λ _. ⌜ EachOnce ⌝ }
 {}
 
-// and the figures of all 16 sizes are this one.
+// Does nothing, and ensures the figures of all 16 sizes.
 pub fn all_sizes()
     ensures { λ _. ⌜ AllSizes ⌝ }
 {}
