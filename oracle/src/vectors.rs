@@ -103,6 +103,12 @@ impl Vectors {
             self.line("widen", &[x]);
             self.line("clamp", &[x]);
         }
+        // each biased exponent once, and subnormals with their leading digit at each place, all others 0 or all 1
+        let exponents = (0..256).map(|e: u32| e << 31 | e << 23 | (e + 1).wrapping_mul(0x9E_3779) & 0x7F_FFFF);
+        let places = (0..23).flat_map(|k| [1 << k, (2 << k) - 1]).flat_map(|b: u32| [b, b | 0x8000_0000]);
+        for b in exponents.chain(places) {
+            self.line("widen", &[f32::from_bits(b)]);
+        }
         let some: Vec<f32> = edges().into_iter().step_by(3).collect();
         for &a in &some {
             for &b in &some {

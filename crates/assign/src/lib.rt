@@ -34,7 +34,7 @@ fn cost(m: &[f32], nd: usize, nt: usize, i: usize, j: usize) -> f64
     if nt <= j {
         return FILLED;
     }
-    -ieee::widen(m[i * nt + j])
+    -widening::widen(m[i * nt + j])
 }
 
 // The n costs of row i; cells past them stay.

@@ -5,4 +5,3 @@ pub mod RootsOfPatterns
 pub mod Grid
 pub mod NearestRoots
 pub mod SquareRoots
-pub mod Widening

@@ -32,9 +32,6 @@ unfolding div ofBits
 zero-by-zero binary32 = refl
 zero-by-zero binary64 = refl
 
-pub pattern-of-number : (f : Format) (x : Float) (b : ℕ) → isNan x ≡ false → ofBits f b ≡ x → T (not (nanBits f b))
-pattern-of-number f x b h e = rw (nanBits-is f b ∙ ap isNan e ∙ h) tt
-
 pub pattern-of-finite : (b : ℕ) → b < 0x7f80_0000 → T (not (nanBits binary32 b))
 pattern-of-finite b h =
     let e : b % 2 ^ 31 ≤ 0x7f80_0000 = omega arith in

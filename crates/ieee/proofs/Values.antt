@@ -42,15 +42,8 @@ magnitude-of nan s a v = absurd v
 magnitude-of (inf t) s a v = absurd v
 magnitude-of (fin t m e) s a v = ap (λ (z : ℕ). z / down e) (v .1) ∙ mul-div-cancel a (down-pos e)
 
-pub same-value : (x y : Float) (s : Bool) (a : ℕ) → T (fits binary32 x) → T (fits binary32 y) → HasValue x s a (2 ^ 149) → HasValue y s a (2 ^ 149) → x ≡ y
-same-value nan y s a p q v w = absurd v
-same-value (inf t) y s a p q v w = absurd v
-same-value (fin t m d) nan s a p q v w = absurd w
-same-value (fin t m d) (inf r) s a p q v w = absurd w
-same-value (fin t m d) (fin r n e) s a p q v w =
-    let h : t ≡ r = v .0 ∙ sym (w .0) in
-    let g : magnitude (fin t m d) ≡ magnitude (fin t n e) = magnitude-of (fin t m d) s a v ∙ sym (magnitude-of (fin r n e) s a w) in
-    same-magnitude t m n d e p (subst (λ (b : Bool). T (fits binary32 (fin b n e))) (sym h) q) g ∙ ap (λ (b : Bool). fin b n e) h
+pub same-value : (f : Format) (x y : Float) (s : Bool) (a : ℕ) → T (fits f x) → T (fits f y) → HasValue x s a (2 ^ low f) → HasValue y s a (2 ^ low f) → x ≡ y
+same-value f x y s a p q v w = sym (ofBits-toBits f x p) ∙ ap (ofBits f) (toBits-pattern f x s a v ∙ sym (toBits-pattern f y s a w)) ∙ ofBits-toBits f y q
 
 -- a value in smaller units
 pub finer : (x : Float) (s : Bool) (a c k : ℕ) → HasValue x s a c → HasValue x s (a * k) (c * k)

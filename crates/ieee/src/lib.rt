@@ -1,9 +1,9 @@
-// IEEE 754 on f32, as document 01's stand-ins ask for it: comparisons that know a NaN, the square root (by the whole roots of crate `roots`), the arc cosine, and f32 to f64.
+// IEEE 754 on f32, as document 01's stand-ins ask for it: comparisons that know a NaN, the square root (by the whole roots of crate `roots`), and the arc cosine.
 ghost use mathlib.Core.Path.{_≡_};
 ghost use lib.Dec.{T};
 ghost use mathlib.Core.Bool.{cond};
-ghost use lib.Ieee.{binary32, binary64, isNan, lt, neg, ofBits};
-ghost use Prim.Native.Nat.{_+_, _%_, _*_, _^_, _<_, _≤_};
+ghost use lib.Ieee.{binary32, isNan, lt, neg, ofBits};
+ghost use Prim.Native.Nat.{_*_, _^_, _<_};
 ghost use Rattle.lists.specs.Lists.{every};
 ghost use Rattle.ieee.specs.Ops.{maxOf, minOf, clampOf, absOf, f32, π, half-π};
 ghost use Rattle.ieee.specs.Patterns.{Normalised, patternUnits};
@@ -68,13 +68,13 @@ pub fn abs(x: f32) -> f32
 }
 
 // m * 2^p
-struct Scaled {
-    m: u64,
-    p: u64,
+pub struct Scaled {
+    pub m: u64,
+    pub p: u64,
 }
 
 // t * 2^149 with m's leading digit at place 23.
-fn normalised(t: u64) -> Scaled
+pub fn normalised(t: u64) -> Scaled
     requires { ⌜ (0 < t) × (t < 2 ^ 24) ⌝ }
     ensures { λ r. ⌜ Normalised (t * 2 ^ 149) (r .m) (r .p) ⌝ }
 {
@@ -135,43 +135,6 @@ pub fn sqrt(x: f32) -> f32
     }
     let s = split(b);
     f32::from_bits(sqrt_scaled(s.m, s.p) as u32)
-}
-
-// The f64 pattern of an f32 pattern's value, field by field.
-fn wide_pattern(b: u64) -> u64
-    requires { ⌜ (b < 2 ^ 32) × (b % 2 ^ 31 ≤ 0x7f80_0000) ⌝ }
-    ensures { λ r. ⌜ ofBits binary64 r ≡ ofBits binary32 b ⌝ }
-{
-    let sign = b / 0x8000_0000 * 0x8000_0000_0000_0000;
-    let field = b / 0x80_0000 % 256;
-    let digits = b % 0x80_0000;
-    // an infinity
-    if field == 255 {
-        return sign + 0x7ff0_0000_0000_0000;
-    }
-    // a normal value: the bias grows by 896, and the leading digit brings 1 of that
-    if 0 < field {
-        return sign + (field + 895) * 0x10_0000_0000_0000 + (0x80_0000 + digits) * 0x2000_0000;
-    }
-    // a zero
-    if digits == 0 {
-        return sign;
-    }
-    // a subnormal value, with its leading digit brought to its place
-    let n = normalised(digits);
-    let m = n.m;
-    let p = n.p;
-    sign + (p + 747) * 0x10_0000_0000_0000 + m * 0x2000_0000
-}
-
-// The same value as an f64, worked out from the bits. One `Float` stands for both formats, so `r ≡ x` says: the same value.
-pub fn widen(x: f32) -> f64
-    ensures { λ r. ⌜ r ≡ x ⌝ }
-{
-    if is_nan(x) {
-        return 0.0 / 0.0;
-    }
-    f64::from_bits(wide_pattern(f32::to_bits(x) as u64))
 }
 
 // The polynomial of Abramowitz and Stegun 4.4.46, from its last coefficient on; and that its coefficients are the nearest to the decimals and have their signs.

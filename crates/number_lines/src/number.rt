@@ -152,7 +152,7 @@ pub fn put(out: &mut [u8], at: usize, r: Row) -> Answer {
 pub fn put_wide(out: &mut [u8], at: usize, r: Row) -> Answer {
     if r.good & (r.count == 1) {
         let of = r.of;
-        let p = protocol::put_hex(out, at, protocol::f64_bits(ieee::widen(of[0])), 16);
+        let p = protocol::put_hex(out, at, protocol::f64_bits(widening::widen(of[0])), 16);
         return Answer::Ends(protocol::put(out, p, b'\n'));
     }
     Answer::Bad

@@ -61,8 +61,8 @@ round-is-zero s a c h e = subst (λ (z : Float). T (isZero z)) (sym (round-of-ze
 
 -- ---- the larger, or the smaller, in the other order
 same-place : (x y : Float) (s t : Bool) (a b : ℕ) → T (fits binary32 x) → T (fits binary32 y) → HasValue x s a (2 ^ 149) → HasValue y t b (2 ^ 149) → pos-part s a + neg-part t b ≡ pos-part t b + neg-part s a → Alike x y
-same-place x y false false a b f g v w h = let e : b ≡ a = omega arith in inl (same-value x y false a f g v (subst (λ (z : ℕ). HasValue y false z (2 ^ 149)) e w))
-same-place x y true true a b f g v w h = let e : b ≡ a = omega arith in inl (same-value x y true a f g v (subst (λ (z : ℕ). HasValue y true z (2 ^ 149)) e w))
+same-place x y false false a b f g v w h = let e : b ≡ a = omega arith in inl (same-value binary32 x y false a f g v (subst (λ (z : ℕ). HasValue y false z (2 ^ 149)) e w))
+same-place x y true true a b f g v w h = let e : b ≡ a = omega arith in inl (same-value binary32 x y true a f g v (subst (λ (z : ℕ). HasValue y true z (2 ^ 149)) e w))
 same-place x y false true a b f g v w h =
     let p : a ≡ 0 = omega arith in
     let q : b ≡ 0 = omega arith in

@@ -93,7 +93,7 @@ twice-less-once x f p l =
     ∙ sub-units binary32 (round binary32 false (a + a) (2 ^ 149)) x false false (a + a) a (2 ^ 149) (pow-pos 149) (exact-double x u d) (u .value)
     ∙ difference-above binary32 false false (a + a) a (2 ^ 149) (more a (u .nonzero))
     ∙ ap (λ (z : ℕ). round binary32 false z (2 ^ 149)) (less a)
-    ∙ same-value (round binary32 false a (2 ^ 149)) x false a (round-fits binary32 false a (2 ^ 149)) f (exact x u (lt-of-le-of-lt (le-add-right a a) d)) (u .value)
+    ∙ same-value binary32 (round binary32 false a (2 ^ 149)) x false a (round-fits binary32 false a (2 ^ 149)) f (exact x u (lt-of-le-of-lt (le-add-right a a) d)) (u .value)
   where
     double : (a k : ℕ) → a + 0 < k + 0 → a + a < k + k
     double a k h = omega arith

@@ -1,7 +1,7 @@
 -- An overlap of two boxes of f32 is at most 1: the common part is no larger than the union. Assumes nothing.
 use mathlib.Core.Path.{_≡_, refl, sym, ap, _∙_, subst}
 use mathlib.Core.Logic.{inl, inr}
-use mathlib.Core.Bool.{Bool, true, false, cond, not}
+use mathlib.Core.Bool.{Bool, true, false, cond}
 use Prim.Native.Nat.{ℕ, zero, suc, _*_, _≤_, _<_}
 use native.Mathlib.Nat.{le-trans, le-of-eq, mul-pos, mul-one, one-mul, zero-mul, mul-zero, zero-lt-suc}
 use lib.IntN.{ℤ, pos}

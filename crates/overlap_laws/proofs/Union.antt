@@ -7,7 +7,7 @@ use native.Mathlib.Nat.{lt-of-lt-of-le, lt-of-le-of-lt, le-of-mul-le-mul-right, 
 use native.Mathlib.Omega.{arith}
 use lib.Dec.{T, leb, leb→le, nleb→lt}
 use lib.Pow.{pow-pos}
-use lib.Ieee.{Float, nan, inf, fin, binary32, round, sum, add, sub, mul, le, fits}
+use lib.Ieee.{Float, nan, inf, fin, binary32, round, sum, add, sub, le, fits}
 use lib.Ieee.Exact.{HasValue, round-exact}
 use lib.Ieee.Fits.{add-fits, sub-fits}
 use lib.Ieee.Order.{round-mono, le-of-values}

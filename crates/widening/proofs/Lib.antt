@@ -1,0 +1,3 @@
+pub mod Classes
+pub mod Values
+pub mod Given
