@@ -21,8 +21,8 @@ one-pattern : (f : Format) (v w : ℕ) → v < 2 * top f → w < 2 * top f → o
 one-pattern f v w h k e n = sym (toBits-ofBits f v h (subst (λ (x : Float). T (not (isNan x))) (sym e) n)) ∙ ap (toBits f) e ∙ toBits-ofBits f w k n
 
 -- so a w with b's value has the fields that b's class makes
-made : (b w s e t : ℕ) → s < 2 → t < 2 ^ 52 → e * 2 ^ 52 + t ≤ 2047 * 2 ^ 52 → w < 2 ^ 64 → ofBits binary64 w ≡ ofBits binary32 b → ofBits binary64 (wideBits s e t) ≡ ofBits binary32 b → Fields s e t w
-made b w s e t h k l i v u =
+fields-made : (b w s e t : ℕ) → s < 2 → t < 2 ^ 52 → e * 2 ^ 52 + t ≤ 2047 * 2 ^ 52 → w < 2 ^ 64 → ofBits binary64 w ≡ ofBits binary32 b → ofBits binary64 (wideBits s e t) ≡ ofBits binary32 b → Fields s e t w
+fields-made b w s e t h k l i v u =
     let o : e < 2048 = omega arith in
     subst (Fields s e t) (sym (one-pattern binary64 w (wideBits s e t) i (bits-lt s e t h o k) (v ∙ sym u) (subst (λ (z : Bool). T (not z)) (nanBits-is binary64 (wideBits s e t)) (no-nan-bits s e t h k l)))) (fields-of s e t h o k)
 
@@ -52,18 +52,18 @@ leading-digit t h l = go (size t) (size-lt t) (size-reaches t) (size-le t 23 l)
 
 gives : (c : Class) (b w : ℕ) → b < 2 ^ 32 → w < 2 ^ 64 → InClass binary32 c b → ofBits binary64 w ≡ ofBits binary32 b → Gives c b w
 gives Zero b w h k c v =
-    let g = made b w (signBit binary32 b) 0 0 (omega arith) (omega arith) (omega arith) k v (zero-same b h c) in
+    let g = fields-made b w (signBit binary32 b) 0 0 (omega arith) (omega arith) (omega arith) k v (zero-same b h c) in
     ((g .exponent, g .trailing), g .sign)
 gives Subnormal b w h k c v =
     let d = leading-digit (trailingSignificand binary32 b) (c .1) (omega arith) in
     let n = d .2 in
-    let g = made b w (signBit binary32 b) (d .1 + 748) ((d .0 - 2 ^ 23) * 2 ^ 29) (omega arith) (omega (arith, n .leading, n .digits)) (omega (arith, n .leading, n .digits, n .most)) k v (subnormal-same (signBit binary32 b) (trailingSignificand binary32 b) (d .0) (d .1) (omega arith) (omega arith) n ∙ ap (ofBits binary32) (two-fields b h (c .0))) in
+    let g = fields-made b w (signBit binary32 b) (d .1 + 748) ((d .0 - 2 ^ 23) * 2 ^ 29) (omega arith) (omega (arith, n .leading, n .digits)) (omega (arith, n .leading, n .digits, n .most)) k v (subnormal-same (signBit binary32 b) (trailingSignificand binary32 b) (d .0) (d .1) (omega arith) (omega arith) n ∙ ap (ofBits binary32) (two-fields b h (c .0))) in
     ((omega (arith, g .exponent), omega (arith, g .exponent, n .most)), g .sign, v)
 gives Normal b w h k c v =
-    let g = made b w (signBit binary32 b) (biasedExponent binary32 b + 896) (trailingSignificand binary32 b * 2 ^ 29) (omega arith) (omega arith) (omega (arith, c .1)) k v (normal-same b h c) in
+    let g = fields-made b w (signBit binary32 b) (biasedExponent binary32 b + 896) (trailingSignificand binary32 b * 2 ^ 29) (omega arith) (omega arith) (omega (arith, c .1)) k v (normal-same b h c) in
     ((omega (arith, g .exponent), omega (arith, g .exponent, c .1)), g .sign, v)
 gives Infinity b w h k c v =
-    let g = made b w (signBit binary32 b) 2047 0 (omega arith) (omega arith) (omega arith) k v (infinity-same b h c) in
+    let g = fields-made b w (signBit binary32 b) 2047 0 (omega arith) (omega arith) (omega arith) k v (infinity-same b h c) in
     ((g .exponent, g .trailing), g .sign)
 gives NaN b w h k c v = nan-class binary64 w (ap isNan v ∙ class-nan binary32 b c)
 

@@ -40,12 +40,12 @@ top-above binary32 = omega arith
 top-above binary64 = omega arith
 
 -- what a pattern stands for, by its fields
-read : (f : Format) (b : ℕ) → b < 2 * top f → ofBits f b ≡ ofFields f (eqb (signBit f b) 1) (biasedExponent f b) (trailingSignificand f b)
-read f b h = ofBits-is f b ∙ ap (λ (s : Bool). ofFields f s (biasedExponent f b) (trailingSignificand f b)) (sign-test (top f) b (top-above f) h)
+by-fields : (f : Format) (b : ℕ) → b < 2 * top f → ofBits f b ≡ ofFields f (eqb (signBit f b) 1) (biasedExponent f b) (trailingSignificand f b)
+by-fields f b h = ofBits-is f b ∙ ap (λ (s : Bool). ofFields f s (biasedExponent f b) (trailingSignificand f b)) (sign-test (top f) b (top-above f) h)
 
 worth : (f : Format) (b : ℕ) → b < 2 * top f → biasedExponent f b < ones f → HasValue (ofBits f b) (eqb (signBit f b) 1) (fieldUnits f (biasedExponent f b) (trailingSignificand f b)) (2 ^ low f)
 worth f b h l =
-    subst (λ (v : Float). HasValue v (eqb (signBit f b) 1) (fieldUnits f (biasedExponent f b) (trailingSignificand f b)) (2 ^ low f)) (sym (read f b h)) (fields-value f (eqb (signBit f b) 1) (biasedExponent f b) (trailingSignificand f b) l)
+    subst (λ (v : Float). HasValue v (eqb (signBit f b) 1) (fieldUnits f (biasedExponent f b) (trailingSignificand f b)) (2 ^ low f)) (sym (by-fields f b h)) (fields-value f (eqb (signBit f b) 1) (biasedExponent f b) (trailingSignificand f b) l)
 
 -- ---- the f64 pattern of three fields
 
@@ -85,8 +85,8 @@ same-units b s e t h i l k m u =
 pub zero-same : (b : ℕ) → b < 2 ^ 32 → InClass binary32 Zero b → ofBits binary64 (wideBits (signBit binary32 b) 0 0) ≡ ofBits binary32 b
 zero-same b h c = same-units b (signBit binary32 b) 0 0 h refl (omega arith) (omega arith) (omega (arith, c .0)) (sym (ap (λ (z : ℕ). fieldUnits binary32 z (trailingSignificand binary32 b) * 2 ^ 925) (c .0) ∙ ap (λ (z : ℕ). z * 2 ^ 925) (c .1)))
 
-moved : (m i j k l : ℕ) → i + j ≡ k + l → m * 2 ^ i * 2 ^ j ≡ m * 2 ^ k * 2 ^ l
-moved m i j k l e = mul-assoc m (2 ^ i) (2 ^ j) ∙ ap (λ (z : ℕ). m * z) (sym (pow-add 2 i j) ∙ ap (λ (z : ℕ). 2 ^ z) e ∙ pow-add 2 k l) ∙ sym (mul-assoc m (2 ^ k) (2 ^ l))
+powers-regrouped : (m i j k l : ℕ) → i + j ≡ k + l → m * 2 ^ i * 2 ^ j ≡ m * 2 ^ k * 2 ^ l
+powers-regrouped m i j k l e = mul-assoc m (2 ^ i) (2 ^ j) ∙ ap (λ (z : ℕ). m * z) (sym (pow-add 2 i j) ∙ ap (λ (z : ℕ). 2 ^ z) e ∙ pow-add 2 k l) ∙ sym (mul-assoc m (2 ^ k) (2 ^ l))
 
 -- the leading digit stands at place 52 where it stood at 23
 led : (m k : ℕ) → 2 ^ 23 ≤ m → fieldUnits binary64 (suc k) ((m - 2 ^ 23) * 2 ^ 29) ≡ m * 2 ^ 29 * 2 ^ k
@@ -100,7 +100,7 @@ normal-units zero t h = absurd (none h)
 normal-units (suc x) t h =
     let i : suc x + 896 ≡ suc (x + 896) = omega arith in
     let j : t ≡ 2 ^ 23 + t - 2 ^ 23 = omega arith in
-    ap (λ (z : ℕ). fieldUnits binary64 z (t * 2 ^ 29)) i ∙ ap (λ (z : ℕ). fieldUnits binary64 (suc (x + 896)) (z * 2 ^ 29)) j ∙ led (2 ^ 23 + t) (x + 896) (omega arith) ∙ moved (2 ^ 23 + t) 29 (x + 896) x 925 (omega arith)
+    ap (λ (z : ℕ). fieldUnits binary64 z (t * 2 ^ 29)) i ∙ ap (λ (z : ℕ). fieldUnits binary64 (suc (x + 896)) (z * 2 ^ 29)) j ∙ led (2 ^ 23 + t) (x + 896) (omega arith) ∙ powers-regrouped (2 ^ 23 + t) 29 (x + 896) x 925 (omega arith)
 
 pub normal-same : (b : ℕ) → b < 2 ^ 32 → InClass binary32 Normal b → ofBits binary64 (wideBits (signBit binary32 b) (biasedExponent binary32 b + 896) (trailingSignificand binary32 b * 2 ^ 29)) ≡ ofBits binary32 b
 normal-same b h c =
@@ -109,7 +109,7 @@ normal-same b h c =
 subnormal-units : (t m p : ℕ) → Normalised (t * 2 ^ 149) m p → fieldUnits binary64 (p + 748) ((m - 2 ^ 23) * 2 ^ 29) ≡ t * 2 ^ 925
 subnormal-units t m p n =
     let i : p + 748 ≡ suc (p + 747) = omega arith in
-    ap (λ (z : ℕ). fieldUnits binary64 z ((m - 2 ^ 23) * 2 ^ 29)) i ∙ led m (p + 747) (n .leading) ∙ moved m 29 (p + 747) p 776 (omega arith) ∙ ap (λ (z : ℕ). z * 2 ^ 776) (n .value) ∙ mul-assoc t (2 ^ 149) (2 ^ 776)
+    ap (λ (z : ℕ). fieldUnits binary64 z ((m - 2 ^ 23) * 2 ^ 29)) i ∙ led m (p + 747) (n .leading) ∙ powers-regrouped m 29 (p + 747) p 776 (omega arith) ∙ ap (λ (z : ℕ). z * 2 ^ 776) (n .value) ∙ mul-assoc t (2 ^ 149) (2 ^ 776)
 
 pub subnormal-same : (s t m p : ℕ) → s < 2 → t < 2 ^ 23 → Normalised (t * 2 ^ 149) m p → ofBits binary64 (wideBits s (p + 748) ((m - 2 ^ 23) * 2 ^ 29)) ≡ ofBits binary32 (s * 2 ^ 31 + t)
 subnormal-same s t m p h l n =
@@ -125,14 +125,14 @@ two-fields b h e = omega (arith, mod-mod-pow b 8 23)
 
 -- ---- infinities
 
-infinite : (f : Format) (s : Bool) → ofFields f s (ones f) 0 ≡ inf s
+infinity-fields : (f : Format) (s : Bool) → ofFields f s (ones f) 0 ≡ inf s
 unfolding ofFields
-infinite binary32 s = refl
-infinite binary64 s = refl
+infinity-fields binary32 s = refl
+infinity-fields binary64 s = refl
 
 infinity-is : (f : Format) (b : ℕ) → b < 2 * top f → InClass f Infinity b → ofBits f b ≡ inf (eqb (signBit f b) 1)
 infinity-is f b h c =
-    read f b h ∙ ap (λ (z : ℕ). ofFields f (eqb (signBit f b) 1) z (trailingSignificand f b)) (c .0) ∙ ap (λ (z : ℕ). ofFields f (eqb (signBit f b) 1) (ones f) z) (c .1) ∙ infinite f (eqb (signBit f b) 1)
+    by-fields f b h ∙ ap (λ (z : ℕ). ofFields f (eqb (signBit f b) 1) z (trailingSignificand f b)) (c .0) ∙ ap (λ (z : ℕ). ofFields f (eqb (signBit f b) 1) (ones f) z) (c .1) ∙ infinity-fields f (eqb (signBit f b) 1)
 
 pub infinity-same : (b : ℕ) → b < 2 ^ 32 → InClass binary32 Infinity b → ofBits binary64 (wideBits (signBit binary32 b) 2047 0) ≡ ofBits binary32 b
 infinity-same b h c =
