@@ -141,18 +141,23 @@ SatinjacksReply satinjacks_update_lists(uint64_t *wide, float *floats, uint32_t 
                                         float *boxes, size_t boxes_len,
                                         uint64_t *ids, size_t ids_len);
 
+typedef struct {
+    uint64_t number; /* the refusal, or 0 */
+    size_t reads;    /* cost entries read, at most 3n^3 + 6n^2; 0 with a refusal */
+} SatinjacksAssignReply;
+
 /*
  * Pairs n rows and n columns, n from 1 to 64, by n*n costs given row after
- * row: x gets each row's column, y each column's row. 0, or 8: then nothing
- * is written.
+ * row: x gets each row's column, y each column's row. The number is 0, or 8:
+ * then nothing is written.
  */
-uint64_t satinjacks_assign(size_t n, const double *cost, size_t cost_len,
-                           int64_t *x, size_t x_len, int64_t *y, size_t y_len);
+SatinjacksAssignReply satinjacks_assign(size_t n, const double *cost, size_t cost_len,
+                                        int64_t *x, size_t x_len, int64_t *y, size_t y_len);
 
 /*
  * The same by whole costs from -1,000,000 to 1,000,000: no one-to-one pairing
  * has a smaller total. 0, or 8, or 12 for a cost out of range where the sizes
- * agree: then nothing is written.
+ * agree: then nothing is written. Its reads aren't told.
  */
 uint64_t satinjacks_assign_whole(size_t n, const int64_t *cost, size_t cost_len,
                                  int64_t *x, size_t x_len, int64_t *y, size_t y_len);

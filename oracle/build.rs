@@ -32,9 +32,12 @@ const FLOATS: [Substitution; 9] = [
     ("oc_sort_tracker/strack.rs", ".sqrt()", ".standin_sqrt()", 2),
 ];
 
-/// What the test of the shortcut says is kept, by a function appended here: the benchmark, which appends nothing, leaves it.
-const TEST: Substitution =
-    ("oc_sort_tracker/assoc.rs", "if row_max == 1 && col_max == 1 {", "if kept(row_max == 1 && col_max == 1) {", 1);
+/// What is told by functions appended here: what the test of the shortcut says, and each read of a cost. The benchmark, which
+/// appends nothing, leaves them.
+const TOLD: [Substitution; 2] = [
+    ("oc_sort_tracker/assoc.rs", "if row_max == 1 && col_max == 1 {", "if kept(row_max == 1 && col_max == 1) {", 1),
+    ("lapjv.rs", "cost[", "read(cost)[", 7),
+];
 
 /// The deliberate fault: the gap's last box is put back, so that the next replay starts from the newest box.
 const FAULT: Substitution = (
@@ -91,9 +94,9 @@ fn has(feature: &str) -> bool {
 
 fn substituted(file: &str, original: &str) -> String {
     let floats = FLOATS.iter().filter(|_| !has("PLAIN"));
-    let test = Some(&TEST).filter(|_| Path::new("appended").exists());
+    let told = TOLD.iter().filter(|_| Path::new("appended").exists());
     let fault = Some(&FAULT).filter(|_| has("FAULT"));
-    replaced(file, original, floats.chain(test).chain(fault))
+    replaced(file, original, floats.chain(told).chain(fault))
 }
 
 fn replaced<'a>(file: &str, original: &str, substitutions: impl Iterator<Item = &'a Substitution>) -> String {

@@ -35,9 +35,10 @@ int main(void)
 
     double cost[4] = {4, 1, 2, 3};
     int64_t x[2], y[2];
-    if (satinjacks_assign(2, cost, 4, x, 2, y, 2) != SATINJACKS_ACCEPTED)
+    SatinjacksAssignReply a = satinjacks_assign(2, cost, 4, x, 2, y, 2);
+    if (a.number != SATINJACKS_ACCEPTED)
         return 1;
-    printf("row 0 takes column %lld, row 1 column %lld\n", (long long)x[0], (long long)x[1]);
+    printf("row 0 takes column %lld, row 1 column %lld, after %zu reads\n", (long long)x[0], (long long)x[1], a.reads);
 
     /* by whole costs the pairing is a cheapest one */
     int64_t units[4] = {-3, 7, 2, 1000001};

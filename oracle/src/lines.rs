@@ -12,7 +12,8 @@ use nalgebra::SMatrix;
 /// Answers the line that starts with `word`, or says that there is no such line.
 pub fn answer(word: &str, words: &mut Words, out: &mut Vec<u8>) -> Result<bool, Fault> {
     match word {
-        "lap" => return lap(words, out).map(|_| true),
+        "lap" => return lap(words, out, false).map(|_| true),
+        "lapreads" => return lap(words, out, true).map(|_| true),
         "lapint" => return whole_lap(words, out).map(|_| true),
         "assoc" => return assoc(words, out).map(|_| true),
         "shortcuts" => return shortcuts(words, out).map(|_| true),
@@ -167,23 +168,31 @@ fn square<T: Clone>(n: usize, costs: &[T]) -> Vec<Vec<T>> {
 }
 
 fn put_pairs(out: &mut Vec<u8>, x: &[isize], y: &[isize]) {
-    out.extend(b"ok\nx");
+    out.extend(b"x");
     x.iter().for_each(|&j| put_whole(out, j as usize));
     out.extend(b"\ny");
     y.iter().for_each(|&i| put_whole(out, i as usize));
     out.push(b'\n');
 }
 
-fn lap(words: &mut Words, out: &mut Vec<u8>) -> Result<(), Fault> {
+/// With the number of costs read (2.12), or without.
+fn lap(words: &mut Words, out: &mut Vec<u8>, is_counted: bool) -> Result<(), Fault> {
     let (n, fit) = sizes(words)?;
     let costs = words.rest_f64()?;
-    if !fit(costs.len()) {
-        out.extend(b"refused 8\n");
-        return Ok(());
+    let fits = fit(costs.len());
+    let (mut x, mut y) = (Vec::new(), Vec::new());
+    crate::lapjv::reads();
+    if fits {
+        (x, y) = (vec![-1; n], vec![-1; n]);
+        crate::lapjv::lapjv(&mut square(n, &costs), &mut x, &mut y).map_err(|_| "the original refused")?;
     }
-    let (mut x, mut y) = (vec![-1; n], vec![-1; n]);
-    crate::lapjv::lapjv(&mut square(n, &costs), &mut x, &mut y).map_err(|_| "the original refused")?;
-    put_pairs(out, &x, &y);
+    out.extend(if fits { "ok\n" } else { "refused 8\n" }.as_bytes());
+    if is_counted {
+        out.extend(format!("reads {}\n", crate::lapjv::reads()).as_bytes());
+    }
+    if fits {
+        put_pairs(out, &x, &y);
+    }
     Ok(())
 }
 
@@ -200,6 +209,7 @@ fn whole_lap(words: &mut Words, out: &mut Vec<u8>) -> Result<(), Fault> {
     }
     let (mut x, mut y) = (vec![-1; n], vec![-1; n]);
     crate::whole_lapjv::lapjv(&mut square(n, &costs), &mut x, &mut y).map_err(|_| "the original refused")?;
+    out.extend(b"ok\n");
     put_pairs(out, &x, &y);
     Ok(())
 }

@@ -34,8 +34,8 @@ const EDGES: [u32; 27] = [
     0x7FFF_FFFF,
 ];
 
-pub const KINDS: [&str; 11] =
-    ["floats", "matrices", "lap", "lapint", "boxes", "filter", "assoc", "states", "calls", "runs", "shortcuts"];
+pub const KINDS: [&str; 12] =
+    ["floats", "matrices", "lap", "lapint", "boxes", "filter", "assoc", "states", "calls", "runs", "shortcuts", "lapreads"];
 
 /// All lines of a kind.
 pub fn lines(kind: &str, seed: u64) -> Vec<u8> {
@@ -43,7 +43,8 @@ pub fn lines(kind: &str, seed: u64) -> Vec<u8> {
     match kind {
         "floats" => v.floats(),
         "matrices" => v.matrices(),
-        "lap" => v.laps(),
+        "lap" => v.laps("lap", |n| n % 8 == 0 || n < 24 || n > 62),
+        "lapreads" => v.laps("lapreads", |n| n % 16 == 0 || n < 12),
         "lapint" => v.whole_laps(),
         "boxes" => v.boxes(),
         "filter" => v.filters(),
@@ -161,8 +162,8 @@ impl Vectors {
         }
     }
 
-    fn lap_line(&mut self, n: usize, x: usize, y: usize, costs: &[f64]) {
-        self.out.extend(format!("lap {n} {x} {y}").as_bytes());
+    fn lap_line(&mut self, word: &str, n: usize, x: usize, y: usize, costs: &[f64]) {
+        self.out.extend(format!("{word} {n} {x} {y}").as_bytes());
         for &c in costs {
             self.out.push(b' ');
             put_f64(&mut self.out, c);
@@ -195,9 +196,10 @@ impl Vectors {
         (0..n * n).map(|q| cost(r, q / n, q % n)).collect()
     }
 
-    fn laps(&mut self) {
+    /// Matrices of every kind, of the sizes asked for, and sizes to refuse.
+    fn laps(&mut self, word: &str, is_asked: fn(usize) -> bool) {
         const COSTS: usize = 12;
-        for n in (1..=64).filter(|n| n % 8 == 0 || *n < 24 || *n > 62) {
+        for n in (1..=64).filter(|&n| is_asked(n)) {
             let cases = if n <= 6 {
                 3 * COSTS
             } else if n <= 16 {
@@ -208,13 +210,13 @@ impl Vectors {
             for case in 0..cases {
                 let kind = if n <= 16 { case } else { case * 4 + n };
                 let costs = self.costs(n, kind % COSTS);
-                self.lap_line(n, n, n, &costs);
+                self.lap_line(word, n, n, n, &costs);
             }
         }
         for (n, x, y, given) in
             [(0, 0, 0, 0), (65, 65, 65, 4225), (2, 2, 2, 3), (2, 2, 2, 5), (2, 1, 2, 4), (2, 2, 3, 4)]
         {
-            self.lap_line(n, x, y, &vec![1.0; given]);
+            self.lap_line(word, n, x, y, &vec![1.0; given]);
         }
     }
 

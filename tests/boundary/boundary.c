@@ -337,10 +337,11 @@ static void assignment(Place *pc, Place *px, Place *py)
     memcpy(x0, x, 8 * l);
     memcpy(y0, y, 8 * m);
     int fits = n >= 1 && n <= 64 && c == n * n && l == n && m == n;
-    uint64_t number = satinjacks_assign(n, cost, c, x, l, y, m);
-    CHECK(number == (fits ? SATINJACKS_ACCEPTED : SATINJACKS_BAD_MATRIX));
+    SatinjacksAssignReply r = satinjacks_assign(n, cost, c, x, l, y, m);
+    CHECK(r.number == (fits ? SATINJACKS_ACCEPTED : SATINJACKS_BAD_MATRIX));
+    CHECK(fits ? n * n <= r.reads && r.reads <= 3 * n * n * n + 6 * n * n : r.reads == 0);
     CHECK(guarded(pc) && guarded(px) && guarded(py) && memcmp(cost, cost0, 8 * c) == 0);
-    assigned[number]++;
+    assigned[r.number]++;
     if (fits)
         for (size_t k = 0; k < n; k++)
             CHECK(0 <= x[k] && x[k] < (int64_t)n && y[x[k]] == (int64_t)k);

@@ -46,7 +46,7 @@ static void *update(void *unused)
 
 static void *assign(void *unused)
 {
-    refusal = satinjacks_assign(64, costs, 64 * 64, x, 64, y, 64);
+    refusal = satinjacks_assign(64, costs, 64 * 64, x, 64, y, 64).number;
     return unused;
 }
 

@@ -85,6 +85,12 @@ struct Reply {
     count: usize,
 }
 
+#[repr(C)]
+struct AssignReply {
+    number: u64,
+    reads: usize,
+}
+
 extern "C" {
     fn satinjacks_new_lists(wide: *mut u64, floats: *mut f32, words: *mut u32, det_thresh: f32) -> u64;
     fn satinjacks_with_settings_lists(
@@ -112,7 +118,7 @@ extern "C" {
         x_len: usize,
         y: *mut i64,
         y_len: usize,
-    ) -> u64;
+    ) -> AssignReply;
     fn satinjacks_assign_whole(
         n: usize,
         cost: *const i64,
@@ -223,18 +229,19 @@ impl Tracker {
 }
 
 /// Pairs n rows and n columns, n from 1 to 64, by n*n costs given row after row: `rows` gets each row's column, `columns`
-/// each column's row. A refusal leaves both as they were.
+/// each column's row. Gives how many cost entries were read, at most 3n³ + 6n². A refusal reads none and leaves both lists as
+/// they were.
 ///
 /// ```
 /// let (mut rows, mut columns) = ([0; 2], [0; 2]);
-/// satinjacks::assign(2, &[1.0, 2.0, 2.0, 1.0], &mut rows, &mut columns)?;
-/// assert_eq!(rows, [0, 1]);
+/// let reads = satinjacks::assign(2, &[1.0, 2.0, 2.0, 1.0], &mut rows, &mut columns)?;
+/// assert_eq!((rows, reads), ([0, 1], 6));
 /// # Ok::<(), satinjacks::Refusal>(())
 /// ```
-pub fn assign(n: usize, costs: &[f64], rows: &mut [i64], columns: &mut [i64]) -> Result<(), Refusal> {
+pub fn assign(n: usize, costs: &[f64], rows: &mut [i64], columns: &mut [i64]) -> Result<usize, Refusal> {
     // SAFETY: each pointer is a slice's own, with its length; a slice's pointer is aligned and never null, and the two that
     // are written are exclusive, so nothing overlaps.
-    let number = unsafe {
+    let reply = unsafe {
         satinjacks_assign(
             n,
             costs.as_ptr(),
@@ -245,7 +252,7 @@ pub fn assign(n: usize, costs: &[f64], rows: &mut [i64], columns: &mut [i64]) ->
             columns.len(),
         )
     };
-    Refusal::of(number).map_or(Ok(()), Err)
+    Refusal::of(reply.number).map_or(Ok(reply.reads), Err)
 }
 
 /// Pairs n rows and n columns, n from 1 to 64, by n*n whole costs from -1,000,000 to 1,000,000, given row after row: `rows`

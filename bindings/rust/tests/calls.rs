@@ -138,7 +138,8 @@ fn assignment() {
     let (mut rows, mut columns) = ([7; 2], [7; 2]);
     assert_eq!(assign(2, &[1.0; 3], &mut rows, &mut columns), Err(Refusal::BadMatrix));
     assert_eq!((rows, columns), ([7; 2], [7; 2]));
-    assign(2, &[4.0, 1.0, 2.0, 3.0], &mut rows, &mut columns).unwrap();
+    // every cost, and for each row, which is its column's alone, its other one
+    assert_eq!(assign(2, &[4.0, 1.0, 2.0, 3.0], &mut rows, &mut columns), Ok(6));
     assert_eq!((rows, columns), ([1, 0], [1, 0]));
 }
 

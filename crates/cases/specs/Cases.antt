@@ -1,4 +1,4 @@
--- Document 01, 'Checks at the edges': the cases marked P, one list. Definitions only.
+-- Document 01, 'Checks at the edges': the cases marked P, one list, with document 02's of costs read. Definitions only.
 use mathlib.Core.Path.{_≡_}
 use mathlib.Core.Bool.{false}
 use mathlib.Core.List.{List, [], _∷_}
@@ -9,6 +9,7 @@ use Rattle.ieee.specs.Ops.{f32}
 use Rattle.object.specs.declared.Corners.{Corners}
 use Rattle.lapjv_walk.specs.Ops.{floats}
 use Rattle.lapjv_walk.specs.Lapjv.{lapjv}
+use Rattle.lapjv_walk.specs.Reads.{lapjvReads}
 use Rattle.pair.specs.Overlap.{overlapOf}
 use Rattle.pair.specs.Angle.{angleOf}
 use Rattle.strack.specs.declared.Direction.the-variants.{Known}
@@ -95,6 +96,8 @@ Cases =
     -- costs 1,2 / 2,1: rows take columns 0, 1; one NaN cost: column 0
     ∷ (let a = ofBits binary64 0x3ff0_0000_0000_0000 in let b = ofBits binary64 0x4000_0000_0000_0000 in lapjv floats 2 (a ∷ b ∷ b ∷ a ∷ []) .x ≡ pos 0 ∷ pos 1 ∷ [])
     ∷ (lapjv floats 1 (nan ∷ []) .x ≡ pos 0 ∷ [])
+    -- 2.12: costs 1,2 / 2,1 read 6
+    ∷ (let a = ofBits binary64 0x3ff0_0000_0000_0000 in let b = ofBits binary64 0x4000_0000_0000_0000 in lapjvReads floats 2 (a ∷ b ∷ b ∷ a ∷ []) ≡ 6)
     -- first frame 0,0,64,64: the same rectangle, id 1
     ∷ (frameOf (emptyTracker usual) (frame n64 n64) .reply ≡ reports (record { rect = record { x = n0; y = n0; width = n64; height = n64 }; id = 1 } ∷ []))
     -- first frame 0,0,0,64: x 0, width 0, y and height NaN, id 1

@@ -216,12 +216,29 @@ pub extern "C" fn satinjacks_new_lists(
 
 // ---- the assignment
 
+// The refusal's number, or 0, and how many cost entries were read (document 02, 2.12).
+#[repr(C)]
+pub struct AssignReply {
+    pub number: u64,
+    pub reads: usize,
+}
+
 // Pairs n rows and n columns by their costs, given row after row.
 #[no_mangle]
-pub extern "C" fn satinjacks_assign(n: usize, cost: &[f64], x: &mut [i64], y: &mut [i64]) -> u64
-    ensures { λ r. ⌜ ((a : Assigned) × ((r ≡ numberOf a) × Answer n (now (cost .entry)) (now (x .entry)) (now (y .entry)) a (now (x .exit)) (now (y .exit)))) ⌝ }
+pub extern "C" fn satinjacks_assign(
+    n: usize,
+    cost: &[f64],
+    x: &mut [i64],
+    y: &mut [i64],
+) -> AssignReply
+    ensures { λ r. ⌜ ((a : Assigned) × ((r .number ≡ numberOf a) × Answer n (now (cost .entry)) (now (x .entry)) (now (y .entry)) a (r .reads) (now (x .exit)) (now (y .exit)))) ⌝ }
 {
-    lapjv::told(lapjv::lapjv(n, cost, x, y))
+    let solved = lapjv::lapjv(n, cost, x, y);
+    let answer = solved.answer;
+    AssignReply {
+        number: lapjv::told(answer),
+        reads: solved.reads,
+    }
 }
 
 // Pairs them by whole costs, at the least total (document 02, 2.3).

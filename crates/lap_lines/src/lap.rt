@@ -1,4 +1,4 @@
-// The line that asks for an assignment by f64 costs; and what it shares with the line of whole costs: sizes and answer.
+// The lines that ask for an assignment by f64 costs; and what they share with the line of whole costs: sizes and answer.
 ghost use Prim.Native.Nat.{_≤_};
 use protocol::Answer;
 use protocol::within;
@@ -28,10 +28,13 @@ pub fn sizes(line: &[u8], letters: usize) -> Asked
     }
 }
 
-// The number that the call was told, and the marks of n rows and columns, if the line is good.
+// The number that the call was told, how many costs it read, where the line asks for it, and the marks of n rows and columns, if
+// the line is good.
 pub struct Pairs {
     pub good: bool,
     pub told: u64,
+    pub is_counted: bool,
+    pub reads: usize,
     pub spoiled: bool,
     pub n: usize,
     pub x: [i64; 128],
@@ -57,6 +60,8 @@ pub fn answered(told: u64, n: usize, x: [i64; 128], y: [i64; 128]) -> Pairs {
     Pairs {
         good: true,
         told,
+        is_counted: false,
+        reads: 0,
         spoiled: is_changed(&x, from) | is_changed(&y, from),
         n,
         x,
@@ -64,9 +69,10 @@ pub fn answered(told: u64, n: usize, x: [i64; 128], y: [i64; 128]) -> Pairs {
     }
 }
 
-// `lap N XLEN YLEN` and the costs. More costs than any n allows are cut to a number that still fits none.
-pub fn read(line: &[u8]) -> Pairs {
-    let asked = sizes(line, 3);
+// `lap N XLEN YLEN` and the costs, or `lapreads`, a word of 8 letters. More costs than any n allows are cut to a number that still
+// fits none.
+pub fn read(line: &[u8], letters: usize) -> Pairs {
+    let asked = sizes(line, letters);
     let mut costs = [0.0f64; 4352];
     let c = protocol::read_f64s(line, asked.end, &mut costs);
     let mut p = pairs_of(
@@ -77,6 +83,7 @@ pub fn read(line: &[u8]) -> Pairs {
         asked.columns,
     );
     p.good = asked.good & c.good;
+    p.is_counted = letters == 8;
     p
 }
 
@@ -87,18 +94,44 @@ fn pairs_of(costs: [f64; 4352], k: usize, n: usize, a: usize, b: usize) -> Pairs
     let mut x = [77i64; 128];
     let mut y = [77i64; 128];
     let r = lapjv::lapjv(n, &costs[0..k], &mut x[0..a], &mut y[0..b]);
-    answered(lapjv::told(r), n, x, y)
+    let answer = r.answer;
+    let mut p = answered(lapjv::told(answer), n, x, y);
+    p.reads = r.reads;
+    p
+}
+
+// Puts a word, a number and the line's end.
+fn put_number(out: &mut [u8], at: usize, word: &[u8], x: u64) -> usize {
+    let q = protocol::put_text(out, at, word);
+    let q = protocol::put_whole(out, q, x);
+    protocol::put(out, q, b'\n')
+}
+
+// Puts `ok`, or the refusal.
+fn put_told(out: &mut [u8], at: usize, told: u64) -> usize {
+    if told == 0 {
+        return protocol::put_text(out, at, b"ok\n");
+    }
+    put_number(out, at, b"refused ", told)
+}
+
+// Puts the reads, where the line asks for them.
+fn put_reads(out: &mut [u8], at: usize, is_counted: bool, reads: usize) -> usize {
+    if is_counted {
+        return put_number(out, at, b"reads ", reads as u64);
+    }
+    at
 }
 
 fn put_pairs(out: &mut [u8], at: usize, p: Pairs) -> usize {
+    let q = put_told(out, at, p.told);
+    let q = put_reads(out, q, p.is_counted, p.reads);
     if p.told != 0 {
-        let q = protocol::put_text(out, at, b"refused ");
-        let q = protocol::put_whole(out, q, p.told);
-        return protocol::put(out, q, b'\n');
+        return q;
     }
     let x = p.x;
     let y = p.y;
-    let q = mark_lines::put_line(out, at, 3, &x, 0, p.n);
+    let q = mark_lines::put_line(out, q, 3, &x, 0, p.n);
     mark_lines::put_line(out, q, 4, &y, 0, p.n)
 }
 

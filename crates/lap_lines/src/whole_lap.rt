@@ -2,7 +2,6 @@
 ghost use Prim.Native.Nat.{_≤_};
 use crate::lap;
 use crate::lap::Pairs;
-use crate::whole_words;
 use protocol::within;
 
 // `lapint N XLEN YLEN` and the costs. More costs than any n allows are cut to a number that still fits none.

@@ -2,8 +2,6 @@
 use lapint_walk::put_price;
 use lapint_walk::reduced_cost;
 use lapint_walk::under;
-use lapjv_path::Hit;
-use lapjv_path::Scanned;
 use lapjv_path::last_free;
 use lapjv_walk::free_at;
 use lapjv_walk::index_at;
@@ -77,6 +75,12 @@ fn find_dense(n: usize, lo: usize, d: &[i64], cols: &mut [usize]) -> usize
     hi
 }
 
+// Where a row's scan ended: the end of the columns at the least distance, and the free column found.
+pub struct Hit {
+    pub hi: usize,
+    pub found: i64,
+}
+
 // Row i, at the least distance mind, against the columns from `from` on.
 fn scan_row(
     n: usize,
@@ -115,6 +119,13 @@ fn scan_row(
         k += 1;
     }
     Hit { hi, found: -1 }
+}
+
+// Where a scan or a search ended.
+pub struct Scanned {
+    pub lo: usize,
+    pub hi: usize,
+    pub found: i64,
 }
 
 // Scans the columns at the least distance, from `at` up to `end`, until a free column joins them.

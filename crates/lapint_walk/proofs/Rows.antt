@@ -174,7 +174,7 @@ module _ (n : ℕ) (cost : List ℤ) (cs : Costs n cost) (some : 0 < n) (count :
   runs-good zero s o g = g
   runs-good (suc m) s o g =
       pick-by (λ (t : Carr ℤ). Good n cost (t .y) (t .v)) (ltb (s .current) count) _ _
-      (λ e. runs-good m (carrStep wholes n cost s) (step-keeps wholes n cost some count s (ltb-true _ _ e) o .0) (step-good s (ltb-true _ _ e) o g))
+      (λ e. runs-good m (carrStep wholes n cost s) (step-keeps wholes n cost some count s (ltb-true _ _ e) o) (step-good s (ltb-true _ _ e) o g))
       (λ _. g)
 
 pub pass-good : (n : ℕ) (cost : List ℤ) → Costs n cost → 0 < n → (s : Kept ℤ) → Left n s → Good n cost (s .y) (s .v) → Good n cost (carrDence wholes n cost s .y) (carrDence wholes n cost s .v)

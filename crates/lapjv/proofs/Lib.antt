@@ -1,4 +1,1 @@
-pub mod Budget
-pub mod Ranged
-pub mod Row
 pub mod Whole

@@ -2,7 +2,7 @@
 use mathlib.Core.Path.{subst, _≡_}
 use mathlib.Core.Bool.{_&&_, true}
 use mathlib.Core.List.{List}
-use Prim.Native.Nat.{_*_, _<_, ℕ, _≤_}
+use Prim.Native.Nat.{_*_, _+_, _<_, ℕ, _≤_}
 use borrow.Author.Tests.{eqb-true, ltb-true}
 use lib.Dec.{eqb, ltb}
 use native.Mathlib.Omega.{arith}
@@ -11,6 +11,7 @@ use Rattle.lapjv_walk.specs.Ccrt.{ccrtDense, Kept}
 use Rattle.lapjv_walk.specs.Holds.{Left}
 use Rattle.lapjv_walk.specs.Lapjv.{Ca, caDense, lapjv, twoPasses}
 use Rattle.lapjv_walk.specs.Ops.{Ops}
+use Rattle.lapjv_walk.specs.Reads.{caReads, carrReads, ccrtReads, lapjvReads}
 use Rattle.lapjv_walk.proofs.Carr.{pass-keeps}
 use Rattle.lapjv_walk.proofs.Cases.{and-left, and-right}
 use Rattle.lapjv_walk.proofs.Whole.{ccrt-left}
@@ -26,6 +27,12 @@ pub lapjv-is : (O : Ops) (n : ℕ) (cost : List (O .C)) (j k l : Kept (O .C)) (t
     → lapjv O n cost ≡ record { x = t .x; y = t .y }
 unfolding lapjv twoPasses
 lapjv-is O n cost j k l t a b c d = rw (a, b, c, d)
+
+-- its reads, from the four steps'
+pub reads-are : (O : Ops) (n : ℕ) (cost : List (O .C)) (j k l : Kept (O .C)) → ccrtDense O n cost ≡ j → carrDence O n cost j ≡ k → carrDence O n cost k ≡ l
+    → (a b c d : ℕ) → a ≡ ccrtReads O n cost → b ≡ carrReads O n cost j → c ≡ carrReads O n cost k → d ≡ caReads O n cost (l .count) l → a + b + c + d ≡ lapjvReads O n cost
+unfolding lapjvReads twoPasses
+reads-are O n cost j k l e₁ e₂ e₃ a b c d ea eb ec ed = rw (e₁, e₂, e₃, ea, eb, ec, ed)
 
 pub record Sizes (n costs rows columns : ℕ) : Type 0 where
   pub some : 0 < n

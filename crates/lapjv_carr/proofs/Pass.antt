@@ -4,7 +4,7 @@ use mathlib.Core.List.{List}
 use mathlib.Core.Logic.{inr}
 use Prim.Native.Nat.{_*_, _+_, _-_, _<_, suc, ℕ, _≤_}
 use borrow.Author.Tests.{le-ltb, lt-ltb}
-use native.Mathlib.Nat.{le-refl, mul-le-mul-right}
+use native.Mathlib.Nat.{le-refl, mul-le-mul, mul-le-mul-right}
 use native.Mathlib.Omega.{arith}
 use Rattle.lapjv_walk.specs.Carr.{Carr, carrMore, carrRuns, carrStep}
 use Rattle.lapjv_walk.specs.Ccrt.{Kept}
@@ -32,6 +32,13 @@ module _ (O : Ops) (n : ℕ) (cost : List (O .C)) (k : Kept (O .C)) where
       unfolding carrMore
       going-done h = sym (g .same) ∙ runs-done (carrMore (k .count)) (carrStep O n cost) (k .count * n - s .turn) s (le-ltb (s .current) (k .count) h)
 
+      -- n reads a turn
+      pub reads-small : n ≤ 64 → s .turn * n ≤ 266240
+      reads-small m =
+          let a : (s .current + 1) * n ≤ 65 * n = mul-le-mul-right n (omega (arith, g .ok .cur-count, g .ok .count-n)) in
+          let b : s .turn ≤ 4160 = omega (arith, g .ok .turns) in
+          mul-le-mul b m
+
       module _ (h : s .current < k .count) where
         pub going-turn : s .turn < k .count * n
         going-turn = let a : (s .current + 1) * n ≤ k .count * n = mul-le-mul-right n (omega arith) in omega (arith, g .ok .turns)
@@ -50,6 +57,6 @@ module _ (O : Ops) (n : ℕ) (cost : List (O .C)) (k : Kept (O .C)) where
         going-on r e t =
             let d : k .count * n - s .turn ≡ suc (k .count * n - r .turn) = omega (arith, going-turn) in
             record {
-              ok = subst (λ (z : Carr (O .C)). CarrOk n (k .count) z) e (step-keeps O n cost some (k .count) s h (g .ok) .0);
+              ok = subst (λ (z : Carr (O .C)). CarrOk n (k .count) z) e (step-keeps O n cost some (k .count) s h (g .ok));
               same = ap (runs (carrMore (k .count)) (carrStep O n cost) (k .count * n - r .turn)) (sym e) ∙ sym (runs-more (carrMore (k .count)) (carrStep O n cost) (k .count * n - r .turn) s (lt-ltb (s .current) (k .count) h)) ∙ rw d at (g .same);
             }

@@ -1,4 +1,5 @@
 // `carr_dence`: augmenting row reduction.
+use lapjv_walk::Remaining;
 use lapjv_walk::cost_at;
 use lapjv_walk::free_at;
 use lapjv_walk::index_at;
@@ -13,6 +14,7 @@ ghost use lib.ListN.{length};
 ghost use Rattle.lapjv_walk.specs.Marks.{numAt};
 ghost use Rattle.lapjv_walk.specs.Ops.{floats};
 ghost use Rattle.lapjv_walk.specs.Carr.{two, carrSeat, carrStep, carrDence};
+ghost use Rattle.lapjv_walk.specs.Reads.{carrReads};
 ghost use Rattle.lapjv_walk.specs.Holds.{Square, Marked, Left};
 
 const LARGE: f64 = 1000000.0;
@@ -132,7 +134,7 @@ fn carr_turn(
     seat(n, i, j1, false, turn, rows, x, y)
 }
 
-// Augmenting row reduction over the rows that are left, and how many it leaves.
+// Augmenting row reduction over the rows that are left; how many it leaves, and how many costs it read: n in each turn.
 pub fn carr_dence(
     n: usize,
     cost: &[f64],
@@ -141,9 +143,9 @@ pub fn carr_dence(
     x: &mut [i64],
     y: &mut [i64],
     v: &mut [f64],
-) -> usize
+) -> Remaining
     requires { ⌜ Square n (now cost) × Left n (record { rows = now rows; count = count; x = now x; y = now y; v = now v }) ⌝ }
-    ensures { λ r. ⌜ carrDence floats n (now (cost .entry)) (record { rows = now (rows .entry); count = count; x = now (x .entry); y = now (y .entry); v = now (v .entry) }) ≡ record { rows = now (rows .exit); count = r; x = now (x .exit); y = now (y .exit); v = now (v .exit) } ⌝ }
+    ensures { λ r. ⌜ (carrDence floats n (now (cost .entry)) (record { rows = now (rows .entry); count = count; x = now (x .entry); y = now (y .entry); v = now (v .entry) }) ≡ record { rows = now (rows .exit); count = r .count; x = now (x .exit); y = now (y .exit); v = now (v .exit) }) × (r .reads ≡ carrReads floats n (now (cost .entry)) (record { rows = now (rows .entry); count = count; x = now (x .entry); y = now (y .entry); v = now (v .entry) })) ⌝ }
 {
     let mut current = 0;
     let mut fresh = 0;
@@ -154,5 +156,9 @@ pub fn carr_dence(
         current = t.current;
         fresh = t.fresh;
     }
-    fresh
+    let reads = turn * n;
+    Remaining {
+        count: fresh,
+        reads,
+    }
 }

@@ -2,7 +2,7 @@
 use mathlib.Core.Path.{refl, subst, _≡_}
 use mathlib.Core.Bool.{Bool, true}
 use mathlib.Core.List.{List}
-use Prim.Native.Nat.{_<_, ℕ}
+use Prim.Native.Nat.{_*_, _+_, _<_, ℕ}
 use lib.IntN.{pos, ℤ}
 use lib.ListN.{length}
 use Rattle.lists.specs.Lists.{tab}
@@ -11,6 +11,7 @@ use Rattle.lapjv_walk.specs.Holds.{AssignOk, Marked, Seated}
 use Rattle.lapjv_walk.specs.Loops.{walk}
 use Rattle.lapjv_walk.specs.Marks.{free}
 use Rattle.lapjv_walk.specs.Ops.{Ops}
+use Rattle.lapjv_walk.specs.Reads.{ccrtReads, collectReads}
 use Rattle.lapjv_walk.proofs.Assign.{assign-ok, assign-starts, rows-marked}
 use Rattle.lapjv_walk.proofs.Ccrt.{ReduceOk}
 use Rattle.lapjv_walk.proofs.Whole.{columns-ok}
@@ -38,6 +39,10 @@ module _ (O : Ops) (n : ℕ) (cost : List (O .C)) (some : 0 < n) (x₁ y₁ y₂
 
     pub collect-asks : (length u₃ ≡ n) × Marked n x₃ × (length v₂ ≡ n)
     collect-asks = (after .len-u, rows-marked n _ after, ok .0 .len-v)
+
+    pub ccrt-reads : ccrtReads O n cost ≡ n * n + collectReads n x₃ u₃
+    unfolding ccrtReads
+    ccrt-reads = rw (reduced, assigned)
 
     pub ccrt-is : (r₁ r₄ : List ℕ) (k : ℕ) (v₄ : List (O .C)) → r₁ ≡ tab (λ _. 0) n
         → walk (collectStep O n cost x₃ u₃) 0 n (record { rows = r₁; count = 0; v = v₂ }) ≡ record { rows = r₄; count = k; v = v₄ }

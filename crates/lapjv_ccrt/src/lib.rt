@@ -1,4 +1,5 @@
 // `ccrt_dense`: column reduction, rows to columns, the rows left over.
+use lapjv_walk::Remaining;
 use lapjv_walk::clear_mark;
 use lapjv_walk::cost_at;
 use lapjv_walk::free_at;
@@ -14,6 +15,7 @@ ghost use Rattle.lapjv_walk.specs.Marks.{free};
 ghost use Rattle.lapjv_walk.specs.Ops.{floats};
 ghost use Rattle.lapjv_walk.specs.Loops.{walk};
 ghost use Rattle.lapjv_walk.specs.Ccrt.{reduceRow, assignFrom, otherMin, collectStep, ccrtDense};
+ghost use Rattle.lapjv_walk.specs.Reads.{collectReads, ccrtReads};
 ghost use Rattle.lapjv_walk.specs.Holds.{Square, AssignOk, Marked};
 
 const LARGE: f64 = 1000000.0;
@@ -97,7 +99,7 @@ fn other_min(n: usize, cost: &[f64], i: usize, j: usize, v: &[f64]) -> f64
     min
 }
 
-// The free rows, in order, and how many; a row that is its column's alone lowers the column's price.
+// The free rows, in order, and how many; a row that is its column's alone lowers the column's price. The reads are those of these rows.
 fn collect_free(
     n: usize,
     cost: &[f64],
@@ -105,11 +107,12 @@ fn collect_free(
     rows: &mut [usize],
     x: &[i64],
     v: &mut [f64],
-) -> usize
+) -> Remaining
     requires { ⌜ Square n (now cost) × (length (now unique) ≡ n) × (length (now rows) ≡ n) × Marked n (now x) × (length (now v) ≡ n) ⌝ }
-    ensures { λ r. ⌜ walk (collectStep floats n (now (cost .entry)) (now (x .entry)) (now (unique .entry))) 0 n (record { rows = now (rows .entry); count = 0; v = now (v .entry) }) ≡ record { rows = now (rows .exit); count = r; v = now (v .exit) } ⌝ }
+    ensures { λ r. ⌜ (walk (collectStep floats n (now (cost .entry)) (now (x .entry)) (now (unique .entry))) 0 n (record { rows = now (rows .entry); count = 0; v = now (v .entry) }) ≡ record { rows = now (rows .exit); count = r .count; v = now (v .exit) }) × (r .reads ≡ collectReads n (now (x .entry)) (now (unique .entry))) ⌝ }
 {
     let mut count = 0;
+    let mut reads = 0;
     let mut i = 0;
     while i < n {
         if free_at(x, i) {
@@ -119,10 +122,11 @@ fn collect_free(
             let j = index_at(x, i);
             let min = other_min(n, cost, i, j, v);
             v[j] = v[j] - min;
+            reads += n - 1;
         }
         i += 1;
     }
-    count
+    Remaining { count, reads }
 }
 
 // ccrt_dense with a lent list for the rows that are their column's alone.
@@ -134,17 +138,22 @@ fn ccrt_in(
     x: &mut [i64],
     v: &mut [f64],
     y: &mut [i64],
-) -> usize
+) -> Remaining
     requires { ⌜ Square n (now cost) × (now unique ≡ tab (λ _. true) n) × (now rows ≡ tab (λ _. 0) n) × (length (now x) ≡ n) × (length (now v) ≡ n) × (length (now y) ≡ n) ⌝ }
-    ensures { λ r. ⌜ ccrtDense floats n (now (cost .entry)) ≡ record { rows = now (rows .exit); count = r; x = now (x .exit); y = now (y .exit); v = now (v .exit) } ⌝ }
+    ensures { λ r. ⌜ (ccrtDense floats n (now (cost .entry)) ≡ record { rows = now (rows .exit); count = r .count; x = now (x .exit); y = now (y .exit); v = now (v .exit) }) × (r .reads ≡ ccrtReads floats n (now (cost .entry))) ⌝ }
 {
     clear_lists(n, x, v, y);
     reduce_columns(n, cost, v, y);
     assign_columns(n, x, y, unique);
-    collect_free(n, cost, unique, rows, x, v)
+    let left = collect_free(n, cost, unique, rows, x, v);
+    let reads = n * n + left.reads;
+    Remaining {
+        count: left.count,
+        reads,
+    }
 }
 
-// Column reduction: pairs what it can, and returns how many rows are left over.
+// Column reduction: pairs what it can, and returns how many rows are left over and how many costs were read.
 pub fn ccrt_dense(
     n: usize,
     cost: &[f64],
@@ -152,9 +161,9 @@ pub fn ccrt_dense(
     x: &mut [i64],
     v: &mut [f64],
     y: &mut [i64],
-) -> usize
+) -> Remaining
     requires { ⌜ Square n (now cost) × (now rows ≡ tab (λ _. 0) n) × (length (now x) ≡ n) × (length (now v) ≡ n) × (length (now y) ≡ n) ⌝ }
-    ensures { λ r. ⌜ ccrtDense floats n (now (cost .entry)) ≡ record { rows = now (rows .exit); count = r; x = now (x .exit); y = now (y .exit); v = now (v .exit) } ⌝ }
+    ensures { λ r. ⌜ (ccrtDense floats n (now (cost .entry)) ≡ record { rows = now (rows .exit); count = r .count; x = now (x .exit); y = now (y .exit); v = now (v .exit) }) × (r .reads ≡ ccrtReads floats n (now (cost .entry))) ⌝ }
 {
     let mut unique = [true; 64];
     ccrt_in(n, cost, &mut unique[..n], rows, x, v, y)

@@ -64,6 +64,14 @@ module _ (O : Ops) (n : ℕ) (cost : List (O .C)) (start : ℕ) (y : List ℤ) (
         unfolding searchMore
         goes-found e = sym runs-rest ∙ runs-done searchMore (searchTurn O n cost y v) rest r e
 
+        -- what is found is a column, or nothing
+        pub goes-none : isFree (r .found) ≡ true → r .found ≡ free
+        goes-none e =
+            ⊎-elim
+            (λ (w : Head O n cost y v (λ i. i ≡ start) m r × (lo + 1 ≤ r .lo)). w .0 .none)
+            (λ (w : FoundOk O n cost y v (λ i. i ≡ start) m r). not-both (isFree (r .found)) e (ap isFree (w .hit .is)))
+            next
+
         pub goes-on : isFree (r .found) ≡ true → Goes (r .lo) (r .d) (r .cols) (r .pred) × (lo < r .lo)
         unfolding rest
         goes-on e =

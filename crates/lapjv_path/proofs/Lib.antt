@@ -1,3 +1,3 @@
 pub mod Turn
 pub mod Goes
-pub mod Scans
+pub mod Counts

@@ -9,6 +9,7 @@ use Rattle.lapjv_walk.specs.Holds.{Apart, Held, Marked}
 use Rattle.lapjv_walk.specs.Marks.{free, isFree}
 use Rattle.lapjv_walk.specs.Ops.{Ops}
 use Rattle.lapjv_walk.specs.Path.{findDense, lastFree, Scan, scanDense, searchTurn, toScan}
+use Rattle.lapjv_walk.specs.Reads.{scanReads, searchTurnReads}
 use Rattle.lapjv_walk.proofs.Find.{find-from}
 use Rattle.lapjv_walk.proofs.ToScan.{to-scan-free, to-scan-held}
 
@@ -31,6 +32,10 @@ module _ (O : Ops) (n : ℕ) (cost : List (O .C)) (y : List ℤ) (lo : ℕ) (d :
     unfolding searchTurn
     turn-finds v e = rw (to-scan, e)
 
+    pub finds-reads : (v : List (O .C)) → isFree z ≡ false → searchTurnReads O n cost y v (record { lo = lo; hi = h₀; d = d; cols = cols; pred = pred; found = free }) ≡ 0
+    unfolding searchTurnReads
+    finds-reads v e = rw (to-scan, e)
+
     -- none is, and what `scan_dense` asks holds
     pub turn-scans : (v : List (O .C)) → Marked n y → isFree z ≡ true
         → Held n y (record { lo = lo; hi = hi; d = d; cols = cols′; pred = pred; found = free })
@@ -41,3 +46,11 @@ module _ (O : Ops) (n : ℕ) (cost : List (O .C)) (y : List ℤ) (lo : ℕ) (d :
         let fr : z ≡ free = sym (ap (λ (t : Scan (O .C)). t .found) to-scan) ∙ to-scan-free O n cost y m before h ln ef in
         let hh = rw to-scan at (to-scan-held O n cost y m before h ln ef) in
         (rw fr at hh, rw (to-scan, fr))
+
+    pub scans-reads : (v : List (O .C)) → Marked n y → isFree z ≡ true
+        → searchTurnReads O n cost y v (record { lo = lo; hi = h₀; d = d; cols = cols; pred = pred; found = free }) ≡ scanReads O n cost y v (record { lo = lo; hi = hi; d = d; cols = cols′; pred = pred; found = free })
+    unfolding searchTurnReads
+    scans-reads v m e =
+        let ef : isFree (toScan O n cost y before .found) ≡ true = rw to-scan e in
+        let fr : z ≡ free = sym (ap (λ (t : Scan (O .C)). t .found) to-scan) ∙ to-scan-free O n cost y m before h ln ef in
+        rw (to-scan, fr)

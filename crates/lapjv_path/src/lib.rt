@@ -1,7 +1,8 @@
-// `find_path_dense` with `find_dense` and `scan_dense`: the shortest way from a free row to a free column.
+// `find_path_dense` with `find_dense`: the shortest way from a free row to a free column.
+use lapjv_scan::Scanned;
+use lapjv_scan::scan_dense;
 use lapjv_walk::cost_at;
 use lapjv_walk::free_at;
-use lapjv_walk::index_at;
 use lapjv_walk::index_of;
 use lapjv_walk::is_free;
 use lapjv_walk::mark;
@@ -11,7 +12,8 @@ ghost use lib.IntN.{pos};
 ghost use lib.ListN.{length};
 ghost use Rattle.lapjv_walk.specs.Marks.{free};
 ghost use Rattle.lapjv_walk.specs.Ops.{floats};
-ghost use Rattle.lapjv_walk.specs.Path.{findDense, scanRow, scanDense, lastFree, searchFrom, searchTurn, searchPath, raise, findPathDense};
+ghost use Rattle.lapjv_walk.specs.Path.{findDense, lastFree, searchFrom, searchTurn, searchPath, raise, findPathDense};
+ghost use Rattle.lapjv_walk.specs.Reads.{searchTurnReads, searchReads, findPathReads};
 ghost use Rattle.lapjv_walk.specs.Holds.{Square, Apart, Marked, Held, Room};
 
 // Brings the columns at the least distance to lo and behind it, and returns their end.
@@ -37,95 +39,6 @@ fn find_dense(n: usize, lo: usize, d: &[f64], cols: &mut [usize]) -> usize
         k += 1;
     }
     hi
-}
-
-// Where a row's scan ended: the end of the columns at the least distance, and the free column found.
-pub struct Hit {
-    pub hi: usize,
-    pub found: i64,
-}
-
-// Row i, at the least distance mind, against the columns from `from` on.
-fn scan_row(
-    n: usize,
-    cost: &[f64],
-    i: usize,
-    h: f64,
-    mind: f64,
-    from: usize,
-    d: &mut [f64],
-    cols: &mut [usize],
-    pred: &mut [usize],
-    y: &[i64],
-    v: &[f64],
-) -> Hit
-    requires { ⌜ Square n (now cost) × (i < n) × (from ≤ n) × (length (now d) ≡ n) × Apart n (now cols) × (length (now pred) ≡ n) × (length (now y) ≡ n) × (length (now v) ≡ n) ⌝ }
-    ensures { λ r. ⌜ ((lo : ℕ) → scanRow floats n (now (cost .entry)) (now (y .entry)) (now (v .entry)) i h mind (record { lo = lo; hi = from; d = now (d .entry); cols = now (cols .entry); pred = now (pred .entry); found = free }) ≡ record { lo = lo; hi = r .hi; d = now (d .exit); cols = now (cols .exit); pred = now (pred .exit); found = r .found }) ⌝ }
-{
-    let mut hi = from;
-    let mut k = from;
-    while k < n {
-        let j = cols[k];
-        let c = cost_at(n, cost, i, j) - v[j] - h;
-        if c < d[j] {
-            d[j] = c;
-            pred[j] = i;
-            if c == mind {
-                if free_at(y, j) {
-                    return Hit { hi, found: mark(j) };
-                }
-                cols[k] = cols[hi];
-                cols[hi] = j;
-                hi += 1;
-            }
-        }
-        k += 1;
-    }
-    Hit { hi, found: -1 }
-}
-
-// Where a scan or a search ended.
-pub struct Scanned {
-    pub lo: usize,
-    pub hi: usize,
-    pub found: i64,
-}
-
-// Scans the columns at the least distance, from `at` up to `end`, until a free column joins them.
-fn scan_dense(
-    n: usize,
-    cost: &[f64],
-    at: usize,
-    end: usize,
-    d: &mut [f64],
-    cols: &mut [usize],
-    pred: &mut [usize],
-    y: &[i64],
-    v: &[f64],
-) -> Scanned
-    requires { ⌜ Square n (now cost) × Marked n (now y) × (length (now v) ≡ n) × Held n (now y) (record { lo = at; hi = end; d = now d; cols = now cols; pred = now pred; found = free }) ⌝ }
-    ensures { λ r. ⌜ scanDense floats n (now (cost .entry)) (now (y .entry)) (now (v .entry)) (record { lo = at; hi = end; d = now (d .entry); cols = now (cols .entry); pred = now (pred .entry); found = free }) ≡ record { lo = r .lo; hi = r .hi; d = now (d .exit); cols = now (cols .exit); pred = now (pred .exit); found = r .found } ⌝ }
-{
-    let mut lo = at;
-    let mut hi = end;
-    while lo != hi {
-        let j = cols[lo];
-        lo += 1;
-        let i = index_at(y, j);
-        let mind = d[j];
-        let h = cost_at(n, cost, i, j) - v[j] - mind;
-        let s = scan_row(n, cost, i, h, mind, hi, d, cols, pred, y, v);
-        hi = s.hi;
-        let found = s.found;
-        if !is_free(found) {
-            return Scanned {
-                lo: at,
-                hi: end,
-                found,
-            };
-        }
-    }
-    Scanned { lo, hi, found: -1 }
 }
 
 // The distances from row start, all columns in order, and the row before each.
@@ -179,14 +92,19 @@ fn search_turn(
     v: &[f64],
 ) -> Scanned
     requires { ⌜ Square n (now cost) × Marked n (now y) × (length (now v) ≡ n) × (lo < n) × Held n (now y) (record { lo = lo; hi = lo; d = now d; cols = now cols; pred = now pred; found = free }) ⌝ }
-    ensures { λ r. ⌜ ((hi : ℕ) → searchTurn floats n (now (cost .entry)) (now (y .entry)) (now (v .entry)) (record { lo = lo; hi = hi; d = now (d .entry); cols = now (cols .entry); pred = now (pred .entry); found = free }) ≡ record { lo = r .lo; hi = r .hi; d = now (d .exit); cols = now (cols .exit); pred = now (pred .exit); found = r .found }) ⌝ }
+    ensures { λ r. ⌜ ((hi : ℕ) → (searchTurn floats n (now (cost .entry)) (now (y .entry)) (now (v .entry)) (record { lo = lo; hi = hi; d = now (d .entry); cols = now (cols .entry); pred = now (pred .entry); found = free }) ≡ record { lo = r .lo; hi = r .hi; d = now (d .exit); cols = now (cols .exit); pred = now (pred .exit); found = r .found }) × (r .reads ≡ searchTurnReads floats n (now (cost .entry)) (now (y .entry)) (now (v .entry)) (record { lo = lo; hi = hi; d = now (d .entry); cols = now (cols .entry); pred = now (pred .entry); found = free }))) ⌝ }
 {
     let hi = find_dense(n, lo, d, cols);
     let found = last_free(n, lo, hi, cols, y);
     if is_free(found) {
         return scan_dense(n, cost, lo, hi, d, cols, pred, y, v);
     }
-    Scanned { lo, hi, found }
+    Scanned {
+        lo,
+        hi,
+        found,
+        reads: 0,
+    }
 }
 
 // Goes on from the nearest columns until a free one is found.
@@ -201,13 +119,16 @@ fn search_path(
     v: &[f64],
 ) -> Scanned
     requires { ⌜ Square n (now cost) × Marked n (now y) × Room n (now y) × (length (now v) ≡ n) × (searchFrom floats n (now cost) start (now v) ≡ record { lo = 0; hi = 0; d = now d; cols = now cols; pred = now pred; found = free }) ⌝ }
-    ensures { λ r. ⌜ searchPath floats n (now (cost .entry)) start (now (y .entry)) (now (v .entry)) ≡ record { lo = r .lo; hi = r .hi; d = now (d .exit); cols = now (cols .exit); pred = now (pred .exit); found = r .found } ⌝ }
+    ensures { λ r. ⌜ (searchPath floats n (now (cost .entry)) start (now (y .entry)) (now (v .entry)) ≡ record { lo = r .lo; hi = r .hi; d = now (d .exit); cols = now (cols .exit); pred = now (pred .exit); found = r .found }) × (r .reads ≡ searchReads floats n (now (cost .entry)) start (now (y .entry)) (now (v .entry))) ⌝ }
 {
     let mut lo = 0;
+    let mut reads = 0;
     loop {
-        let s = search_turn(n, cost, lo, d, cols, pred, y, v);
+        let mut s = search_turn(n, cost, lo, d, cols, pred, y, v);
+        reads += s.reads;
         let found = s.found;
         if !is_free(found) {
+            s.reads = reads;
             return s;
         }
         lo = s.lo;
@@ -228,6 +149,12 @@ fn raise_prices(n: usize, lo: usize, d: &[f64], cols: &[usize], v: &mut [f64])
     }
 }
 
+// The free column at the end of a way, and the costs read to find it.
+pub struct Way {
+    pub last: usize,
+    pub reads: usize,
+}
+
 // find_path_dense with lent lists for the distances and the columns.
 fn find_path_in(
     n: usize,
@@ -238,19 +165,23 @@ fn find_path_in(
     y: &[i64],
     v: &mut [f64],
     pred: &mut [usize],
-) -> usize
+) -> Way
     requires { ⌜ Square n (now cost) × (start < n) × (length (now d) ≡ n) × (length (now cols) ≡ n) × Marked n (now y) × Room n (now y) × (length (now v) ≡ n) × (length (now pred) ≡ n) ⌝ }
-    ensures { λ r. ⌜ findPathDense floats n (now (cost .entry)) start (now (y .entry)) (now (v .entry)) ≡ record { pred = now (pred .exit); last = pos r; v = now (v .exit) } ⌝ }
+    ensures { λ r. ⌜ (findPathDense floats n (now (cost .entry)) start (now (y .entry)) (now (v .entry)) ≡ record { pred = now (pred .exit); last = pos (r .last); v = now (v .exit) }) × (r .reads ≡ findPathReads floats n (now (cost .entry)) start (now (y .entry)) (now (v .entry))) ⌝ }
 {
     search_from(n, cost, start, v, d, cols, pred);
     let s = search_path(n, cost, start, d, cols, pred, y, v);
     let lo = s.lo;
     raise_prices(n, lo, d, cols, v);
     let found = s.found;
-    index_of(found)
+    let reads = n + s.reads;
+    Way {
+        last: index_of(found),
+        reads,
+    }
 }
 
-// The free column at the end of the shortest way from row start; pred gets the row before each column, and v the new prices.
+// The free column at the end of the shortest way from row start, and the costs read; pred gets the row before each column, and v the new prices.
 pub fn find_path_dense(
     n: usize,
     cost: &[f64],
@@ -258,9 +189,9 @@ pub fn find_path_dense(
     y: &[i64],
     v: &mut [f64],
     pred: &mut [usize],
-) -> usize
+) -> Way
     requires { ⌜ Square n (now cost) × (start < n) × Marked n (now y) × Room n (now y) × (length (now v) ≡ n) × (length (now pred) ≡ n) ⌝ }
-    ensures { λ r. ⌜ findPathDense floats n (now (cost .entry)) start (now (y .entry)) (now (v .entry)) ≡ record { pred = now (pred .exit); last = pos r; v = now (v .exit) } ⌝ }
+    ensures { λ r. ⌜ (findPathDense floats n (now (cost .entry)) start (now (y .entry)) (now (v .entry)) ≡ record { pred = now (pred .exit); last = pos (r .last); v = now (v .exit) }) × (r .reads ≡ findPathReads floats n (now (cost .entry)) start (now (y .entry)) (now (v .entry))) ⌝ }
 {
     let mut d = [0.0f64; 64];
     let mut cols = [0usize; 64];

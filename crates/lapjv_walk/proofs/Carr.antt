@@ -41,6 +41,18 @@ more-turns n c t h l = omega (arith, native.Mathlib.Nat.add-mul (c + 1) 1 n, nat
 below-ne : {p f : ℕ} → p < f + 1 → (p ≡ f → ⊥) → p < f
 below-ne h u = omega arith
 
+module _ (O : Ops) (n : ℕ) (cost : List (O .C)) where
+  -- each turn is counted
+  pub step-turn : (s : Carr (O .C)) → carrStep O n cost s .turn ≡ s .turn + 1
+  unfolding carrStep carrPick carrSeat
+  step-turn s =
+      let P : Carr (O .C) → Type 0 = λ t. t .turn ≡ s .turn + 1 in
+      let b : Two (O .C) = two O n cost (getD (s .rows) (s .current) 0) (s .v) in
+      pick-ind P (ltb (s .turn + 1) ((s .current + 1) * n)) _ _
+      (pick-ind P (O .lt (O .sub (getD (s .v) (b .j1) (O .none)) (O .sub (b .v2) (b .v1))) (getD (s .v) (b .j1) (O .none))) _ _ refl
+      (pick-ind P (not (isFree (getD (s .y) (b .j1) (pos 0))) && not (isFree (b .j2))) _ _ refl refl))
+      refl
+
 module _ (O : Ops) (n : ℕ) (cost : List (O .C)) (some : 0 < n) (count : ℕ) where
   seat-keeps : (j : ℕ) (again : Bool) (v : List (O .C)) (s : Carr (O .C)) → j < n → s .current < count → length v ≡ n → CarrOk n count s
       → (again ≡ true → s .turn + 1 < (s .current + 1) * n) → CarrOk n count (carrSeat (getD (s .rows) (s .current) 0) j again v s)
@@ -129,30 +141,26 @@ module _ (O : Ops) (n : ℕ) (cost : List (O .C)) (some : 0 < n) (count : ℕ) w
       (pick-ind TwoOk (O .le (t .v1) (O .sub (costAt O n cost i j) (getD v j (O .none)))) _ _ (o .0, inr (record { at = j; below = u; is = refl })) (u, inr (record { at = t .j1; below = o .0; is = refl })))
       o)
 
-  seat-turn : (i j : ℕ) (again : Bool) (v : List (O .C)) (s : Carr (O .C)) → carrSeat i j again v s .turn ≡ s .turn + 1
-  unfolding carrSeat
-  seat-turn i j again v s = refl
-
   pick-keeps : (b : Two (O .C)) (s : Carr (O .C)) → TwoOk b → s .current < count → CarrOk n count s
-      → CarrOk n count (carrPick O n cost (getD (s .rows) (s .current) 0) b s) × (carrPick O n cost (getD (s .rows) (s .current) 0) b s .turn ≡ s .turn + 1)
+      → CarrOk n count (carrPick O n cost (getD (s .rows) (s .current) 0) b s)
   unfolding carrPick
   pick-keeps b s t hc o =
       let i : ℕ = getD (s .rows) (s .current) 0 in
-      let P : Carr (O .C) → Type 0 = λ r. CarrOk n count r × (r .turn ≡ s .turn + 1) in
+      let P : Carr (O .C) → Type 0 = λ r. CarrOk n count r in
       let low : O .C = O .sub (getD (s .v) (b .j1) (O .none)) (O .sub (b .v2) (b .v1)) in
-      let plain : P (carrSeat i (b .j1) false (s .v) s) = (seat-keeps (b .j1) false (s .v) s (t .0) hc (o .len-v) o never, seat-turn i (b .j1) false (s .v) s) in
+      let plain : P (carrSeat i (b .j1) false (s .v) s) = seat-keeps (b .j1) false (s .v) s (t .0) hc (o .len-v) o never in
       pick-by P (ltb (s .turn + 1) ((s .current + 1) * n)) _ _
       (λ e. pick-ind P (O .lt low (getD (s .v) (b .j1) (O .none))) _ _
-      (seat-keeps (b .j1) true (set (s .v) (b .j1) low) s (t .0) hc (simp length-set (o .len-v)) o (λ _. ltb-true _ _ e), seat-turn i (b .j1) true (set (s .v) (b .j1) low) s)
+      (seat-keeps (b .j1) true (set (s .v) (b .j1) low) s (t .0) hc (simp length-set (o .len-v)) o (λ _. ltb-true _ _ e))
       (pick-by P (not (isFree (getD (s .y) (b .j1) (pos 0))) && not (isFree (b .j2))) _ _
-      (λ e2. (seat-keeps (index (b .j2)) false (s .v) s (other (not-true _ (and-right (not (isFree (getD (s .y) (b .j1) (pos 0)))) (not (isFree (b .j2))) e2))) hc (o .len-v) o never, seat-turn i (index (b .j2)) false (s .v) s))
+      (λ e2. seat-keeps (index (b .j2)) false (s .v) s (other (not-true _ (and-right (not (isFree (getD (s .y) (b .j1) (pos 0)))) (not (isFree (b .j2))) e2))) hc (o .len-v) o never)
       (λ _. plain)))
       (λ _. plain)
     where
       other : isFree (b .j2) ≡ false → index (b .j2) < n
       other e = seat-below n (b .j2) (index (b .j2)) (taken-pos (b .j2) e) (t .1)
 
-  pub step-keeps : (s : Carr (O .C)) → s .current < count → CarrOk n count s → CarrOk n count (carrStep O n cost s) × (carrStep O n cost s .turn ≡ s .turn + 1)
+  pub step-keeps : (s : Carr (O .C)) → s .current < count → CarrOk n count s → CarrOk n count (carrStep O n cost s)
   unfolding carrStep
   step-keeps s hc o = pick-keeps (two O n cost (getD (s .rows) (s .current) 0) (s .v)) s (two-ok (getD (s .rows) (s .current) 0) (s .v)) hc o
 
@@ -170,7 +178,7 @@ module _ (O : Ops) (n : ℕ) (cost : List (O .C)) (some : 0 < n) (count : ℕ) w
   runs-keep zero s o h = (o, done-at (s .current) (s .turn) (o .cur-count) (o .turns) (omega arith))
   runs-keep (suc m) s o h =
       pick-by (λ (t : Carr (O .C)). CarrOk n count t × (t .current ≡ count)) (ltb (s .current) count) _ _
-      (λ e. runs-keep m (carrStep O n cost s) (step-keeps s (ltb-true _ _ e) o .0) (omega (arith, step-keeps s (ltb-true _ _ e) o .1)))
+      (λ e. runs-keep m (carrStep O n cost s) (step-keeps s (ltb-true _ _ e) o) (omega (arith, step-turn O n cost s)))
       (λ e. (o, omega (arith, ltb-false (s .current) count e, o .cur-count)))
 
 module _ (O : Ops) (n : ℕ) (cost : List (O .C)) (some : 0 < n) (s : Kept (O .C)) (l : Left n s) where

@@ -18,3 +18,4 @@ pub mod ToScan
 pub mod Trail
 pub mod Ca
 pub mod Whole
+pub mod Most

@@ -112,7 +112,7 @@ module _ (O : Ops) (n : ℕ) (cost : List (O .C)) (y : List ℤ) (v : List (O .C
         pick-by (λ (r : Scan (O .C)). Ended (s .lo) r) (scanMore s) _ _
         (λ e.
         let lt : s .lo < s .hi = lt-of (p .lo-hi) (is-more s e) in
-        let l1 : scanTurn O n cost y v s .lo ≡ s .lo + 1 = turn-lo O n cost y v R m s (p .hi-n) in
+        let l1 : scanTurn O n cost y v s .lo ≡ s .lo + 1 = turn-lo O n cost y v s in
         let r = scan-ends f (scanTurn O n cost y v s) (omega arith) (turn-ok O n cost y v R m s lt p) (hit-turn s (p .hi-n) t) in
         record { path = r .path; hit = r .hit; end = ⊎-elim (λ u. inl u) (λ u. inr (u .0, omega (arith, u .1))) (r .end) })
         (λ e. record { path = p; hit = t; end = ⊎-elim (λ u. inl u) (λ u. inr (u, le-refl (s .lo))) (not-more s e) })
@@ -122,7 +122,7 @@ module _ (O : Ops) (n : ℕ) (cost : List (O .C)) (y : List ℤ) (v : List (O .C
     unfolding scanAll
     scan-on s lt e p =
         let en : n - s .lo ≡ suc (n - (s .lo + 1)) = omega (arith, p .hi-n) in
-        let l1 : scanTurn O n cost y v s .lo ≡ s .lo + 1 = turn-lo O n cost y v R m s (p .hi-n) in
+        let l1 : scanTurn O n cost y v s .lo ≡ s .lo + 1 = turn-lo O n cost y v s in
         rw (en, runs-more (scanMore) (scanTurn O n cost y v) (n - (s .lo + 1)) s (more-yes s (λ q. omega arith) e))
         (subst (λ (l : ℕ). Ended l (runs (scanMore) (scanTurn O n cost y v) (n - (s .lo + 1)) (scanTurn O n cost y v s))) l1
         (scan-ends (n - (s .lo + 1)) (scanTurn O n cost y v s) (omega (arith, p .hi-n)) (turn-ok O n cost y v R m s lt p) (hit-turn s (p .hi-n) (inl e))))

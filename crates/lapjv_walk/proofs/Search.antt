@@ -18,7 +18,7 @@ use Rattle.lapjv_walk.specs.Marks.{free, index, isFree}
 use Rattle.lapjv_walk.specs.Ops.{costAt, Ops}
 use Rattle.lapjv_walk.specs.Path.{exchanged, Scan, scanCol, scanHit, scanMore, scanRow, scanStep, scanTurn}
 use Rattle.lapjv_walk.proofs.Cases.{and-false, pick-by, pick-ind}
-use Rattle.lapjv_walk.proofs.Loops.{walk-ind}
+use Rattle.lapjv_walk.proofs.Loops.{walk-ind, walk-keeps}
 use Rattle.lapjv_walk.proofs.Swap.{swap-apart}
 
 -- the row before the column at q: one of R, as the start, or the row of a column that was scanned earlier
@@ -217,6 +217,26 @@ free-path h = record { lo-hi = h .lo-hi; hi-n = h .hi-n; len-d = h .len-d; len-p
 pub path-held : {n : ℕ} {R : ℕ → Type 0} {y : List ℤ} {C : Type 0} {s : Scan C} → PathOk n R y s → Held n y s
 path-held h = record { lo-hi = h .lo-hi; hi-n = h .hi-n; len-d = h .len-d; len-pred = h .len-pred; apart = h .apart; held = h .held }
 
+module _ (O : Ops) (n : ℕ) (cost : List (O .C)) (y : List ℤ) (v : List (O .C)) where
+  step-lo : (i : ℕ) (h mind : O .C) (k : ℕ) (s : Scan (O .C)) → scanStep O n cost y v i h mind k s .lo ≡ s .lo
+  unfolding scanStep scanCol scanHit
+  step-lo i h mind k s =
+      let P : Scan (O .C) → Type 0 = λ t. t .lo ≡ s .lo in
+      let j : ℕ = getD (s .cols) k 0 in
+      let c : O .C = O .sub (O .sub (costAt O n cost i j) (getD v j (O .none))) h in
+      pick-ind P (isFree (s .found)) _ _ (pick-ind P (O .lt c (getD (s .d) j (O .none))) _ _ (pick-ind P (O .eq c mind) _ _ (pick-ind P (isFree (getD y j (pos 0))) _ _ refl refl) refl) refl) refl
+
+  -- each turn goes one column on
+  pub turn-lo : (s : Scan (O .C)) → scanTurn O n cost y v s .lo ≡ s .lo + 1
+  unfolding scanTurn scanRow
+  turn-lo s =
+      let j : ℕ = getD (s .cols) (s .lo) 0 in
+      let i : ℕ = index (getD y j (pos 0)) in
+      let mind : O .C = getD (s .d) j (O .none) in
+      let h : O .C = O .sub (O .sub (costAt O n cost i j) (getD v j (O .none))) mind in
+      walk-keeps (scanStep O n cost y v i h mind) (λ t. t .lo ≡ s .lo + 1) (s .hi) n (record { lo = s .lo + 1; hi = s .hi; d = s .d; cols = s .cols; pred = s .pred; found = s .found }) refl
+      (λ k t e. step-lo i h mind k t ∙ e)
+
 module _ (O : Ops) (n : ℕ) (cost : List (O .C)) (y : List ℤ) (v : List (O .C)) (R : ℕ → Type 0) (m : Marked n y) where
   pub turn-ok : (s : Scan (O .C)) → s .lo < s .hi → PathOk n R y s → PathOk n R y (scanTurn O n cost y v s)
   unfolding scanTurn scanRow
@@ -242,24 +262,6 @@ module _ (O : Ops) (n : ℕ) (cost : List (O .C)) (y : List ℤ) (v : List (O .C
         some = omega arith;
         row = rw e is;
       }) .path
-
-  step-lo : (i : ℕ) (h mind : O .C) (k : ℕ) (s : Scan (O .C)) → scanStep O n cost y v i h mind k s .lo ≡ s .lo
-  unfolding scanStep scanCol scanHit
-  step-lo i h mind k s =
-      let P : Scan (O .C) → Type 0 = λ t. t .lo ≡ s .lo in
-      let j : ℕ = getD (s .cols) k 0 in
-      let c : O .C = O .sub (O .sub (costAt O n cost i j) (getD v j (O .none))) h in
-      pick-ind P (isFree (s .found)) _ _ (pick-ind P (O .lt c (getD (s .d) j (O .none))) _ _ (pick-ind P (O .eq c mind) _ _ (pick-ind P (isFree (getD y j (pos 0))) _ _ refl refl) refl) refl) refl
-
-  pub turn-lo : (s : Scan (O .C)) → s .hi ≤ n → scanTurn O n cost y v s .lo ≡ s .lo + 1
-  unfolding scanTurn scanRow
-  turn-lo s hn =
-      let j : ℕ = getD (s .cols) (s .lo) 0 in
-      let i : ℕ = index (getD y j (pos 0)) in
-      let mind : O .C = getD (s .d) j (O .none) in
-      let h : O .C = O .sub (O .sub (costAt O n cost i j) (getD v j (O .none))) mind in
-      walk-ind (scanStep O n cost y v i h mind) (λ k t. t .lo ≡ s .lo + 1) (s .hi) n (record { lo = s .lo + 1; hi = s .hi; d = s .d; cols = s .cols; pred = s .pred; found = s .found }) hn refl
-      (λ k t _ _ e. step-lo i h mind k t ∙ e)
 
   -- what is found is a column, or nothing
   step-found : (i : ℕ) (h mind : O .C) (k : ℕ) (s : Scan (O .C)) → (s .found ≡ free) ⊎ (isFree (s .found) ≡ false) → (scanStep O n cost y v i h mind k s .found ≡ free) ⊎ (isFree (scanStep O n cost y v i h mind k s .found) ≡ false)

@@ -51,7 +51,9 @@ assign n y = assignFrom n (record { x = tab (λ _. free) n; y = y; unique = tab 
 
 module _ (O : Ops) (n : ℕ) (cost : List (O .C)) where
   unfoldable pub reduceStep : ℕ → ℕ → Reduce (O .C) → Reduce (O .C)
-  reduceStep i j s = pick (O .lt (costAt O n cost i j) (valAt O (s .v) j)) (record { v = set (s .v) j (costAt O n cost i j); y = set (s .y) j (pos i) }) s
+  reduceStep i j s =
+      let c : O .C = costAt O n cost i j in
+      pick (O .lt c (valAt O (s .v) j)) (record { v = set (s .v) j c; y = set (s .y) j (pos i) }) s
 
   unfoldable pub reduceRow : ℕ → Reduce (O .C) → Reduce (O .C)
   reduceRow i s = walk (reduceStep i) 0 n s
@@ -60,9 +62,7 @@ module _ (O : Ops) (n : ℕ) (cost : List (O .C)) where
   reduceColumns = walk reduceRow 0 n (record { v = tab (λ _. O .large) n; y = tab (λ _. pos 0) n })
 
   unfoldable pub otherStep : ℕ → ℕ → List (O .C) → ℕ → O .C → O .C
-  otherStep i j v k m =
-      let c : O .C = O .sub (costAt O n cost i k) (valAt O v k) in
-      pick (eqb k j) m (pick (O .lt c m) c m)
+  otherStep i j v k m = pick (eqb k j) m (let c : O .C = O .sub (costAt O n cost i k) (valAt O v k) in pick (O .lt c m) c m)
 
   -- the least reduced cost of row i away from column j
   unfoldable pub otherMin : ℕ → ℕ → List (O .C) → O .C

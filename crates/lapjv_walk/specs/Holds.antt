@@ -6,7 +6,7 @@ use mathlib.Core.Logic.{_⊎_}
 use Prim.Native.Nat.{ℕ, _*_, _≤_, _<_}
 use lib.IntN.{ℤ, pos}
 use lib.ListN.{length}
-use Rattle.lapjv_walk.specs.Marks.{free, isFree, markAt, numAt}
+use Rattle.lapjv_walk.specs.Marks.{free, isFree, index, markAt, numAt}
 use Rattle.lapjv_walk.specs.Ccrt.{Assign, Kept}
 use Rattle.lapjv_walk.specs.Path.{Scan}
 use Rattle.lapjv_walk.specs.Lapjv.{Sits}
@@ -38,6 +38,11 @@ pub record Seated (n : ℕ) (y : List ℤ) : Type 0 where
 pub record Marked (n : ℕ) (y : List ℤ) : Type 0 where
   pub len : length y ≡ n
   pub seat : (j : ℕ) → j < n → isFree (markAt y j) ≡ false → Seat n (markAt y j)
+
+-- n marks whose indices are below n
+pub record Ranged (n : ℕ) (x : List ℤ) : Type 0 where
+  pub len : length x ≡ n
+  pub below : (i : ℕ) → i < n → index (markAt x i) < n
 
 -- ---- `ccrt_dense`, after the columns from `from` on
 

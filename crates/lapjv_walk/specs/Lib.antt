@@ -5,5 +5,6 @@ pub mod Ccrt
 pub mod Carr
 pub mod Path
 pub mod Lapjv
+pub mod Reads
 pub mod Holds
 pub mod Ends

@@ -8,6 +8,12 @@ ghost use Rattle.lapjv_walk.specs.Marks.{free, isFree, index, markAt};
 ghost use Rattle.lapjv_walk.specs.Ops.{floats, costAt};
 ghost use Rattle.lapjv_walk.specs.Holds.{Square};
 
+// What a step leaves: so many rows without a column; and how many costs it read (document 02, 2.12).
+pub struct Remaining {
+    pub count: usize,
+    pub reads: usize,
+}
+
 // Whether a mark is free.
 pub fn is_free(m: i64) -> bool
     ensures { λ r. ⌜ r ≡ isFree m ⌝ }

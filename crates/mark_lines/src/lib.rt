@@ -91,7 +91,7 @@ fn put_index(
     put_if(out, p, s.two, b',', s.second)
 }
 
-// Puts one of the lines `matches`, `dets`, `tracks`, `x`, behind the line `ok`, and `y` on the first n indices, by its number among
+// Puts one of the lines `matches`, `dets`, `tracks`, `x` and `y` on the first n indices, by its number among
 // them: those with a mark and their marks, those without one, those that are none of the first so many marks, and the marks of all.
 pub fn put_line(
     out: &mut [u8],
@@ -101,7 +101,7 @@ pub fn put_line(
     count: usize,
     n: usize,
 ) -> usize {
-    let mut to = protocol::put_nth(out, at, b"matches dets tracks ok\nx y", line);
+    let mut to = protocol::put_nth(out, at, b"matches dets tracks x y", line);
     let mut i = 0;
     while i < n {
         to = put_index(out, to, line, marks, count, i);

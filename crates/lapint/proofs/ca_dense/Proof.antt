@@ -14,7 +14,7 @@ use Rattle.lapint_walk.specs.Holds.{Good}
 use Rattle.lapint_walk.proofs.Whole.{ca-good}
 use Rattle.lapjv_walk.proofs.Ca.{After, columns-left, columns-marked, queue-at, row-ends, start-below}
 use Rattle.lapjv_walk.proofs.Loops.{walk-more, walk-none}
-use Rattle.lapjv.proofs.Ranged.{paired-ranged}
+use Rattle.lapjv_ca.proofs.Ranged.{paired-ranged}
 use Rattle.lapint.proofs.ca_dense.Statement.{statement}
 use Rattle.lapint.proofs.ca_dense.Tie as tie
 

@@ -2,7 +2,7 @@
 use borrow.Author.Needs.{needs}
 use denote.Ref.{now}
 use Rattle.lapint_walk.specs.Wholes.{wholes}
-use Rattle.lapjv.proofs.Row.{last-below, pred-long, pred-ranged, row-is, trail-over}
+use Rattle.lapjv_ca.proofs.Row.{last-below, pred-long, pred-ranged, row-is, trail-over}
 use Rattle.lapint.proofs.ca_row.Statement.{statement}
 use Rattle.lapint.proofs.ca_row.Tie as tie
 

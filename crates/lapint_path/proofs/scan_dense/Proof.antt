@@ -9,7 +9,7 @@ use mir.Syntax.{w64}
 use mir.Val.{ofZ, toZ}
 use mir.ValLaws.{toZ-ofZ}
 use native.Mathlib.Omega.{arith}
-use Rattle.lapjv_walk.specs.Marks.{free, index, isFree, markAt, numAt}
+use Rattle.lapjv_walk.specs.Marks.{free, isFree, markAt, numAt}
 use Rattle.lapjv_walk.specs.Ops.{costAt}
 use Rattle.lapint_walk.specs.Wholes.{wholes}
 use Rattle.lapint_walk.specs.Holds.{Far, rc, val}
@@ -18,7 +18,7 @@ use Rattle.lapint_walk.proofs.Reach.{turn-far}
 use Rattle.lapjv_walk.specs.Holds.{Seat}
 use Rattle.lapjv_walk.specs.Path.{Scan}
 use Rattle.lapjv_walk.proofs.Search.{scan≡}
-use Rattle.lapjv_path.proofs.Scans.{lo-hi, next-column, next-row, Scans, scans-done, scans-first, scans-found, scans-on, turn-held, turn-is}
+use Rattle.lapjv_scan.proofs.Scans.{lo-hi, next-column, next-row, Scans, scans-done, scans-first, scans-found, scans-on, turn-held, turn-is}
 use Rattle.lapint_path.proofs.scan_dense.Statement.{statement}
 use Rattle.lapint_path.proofs.scan_dense.Tie as tie
 

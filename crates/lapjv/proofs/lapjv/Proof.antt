@@ -9,6 +9,7 @@ use Rattle.lapjv_walk.specs.Lapjv.{OneToOne, Pairs}
 use Rattle.lapjv_walk.specs.Ops.{floats}
 use Rattle.lapjv_walk.proofs.Cases.{not-both}
 use Rattle.lapjv_walk.proofs.Fill.{take-fill, take-long}
+use Rattle.lapjv_walk.proofs.Most.{reads-most}
 use Rattle.lapjv_walk.proofs.Whole.{all-end, one-to-one}
 use Rattle.lapjv.proofs.Whole.{fits-sizes}
 use Rattle.lapjv.proofs.lapjv.Statement.{statement}
@@ -20,7 +21,7 @@ sizes-fit-requires c κs = search needs
 returns : tie.Need-returns
 returns c =
     let f = sym (c .before .sizes-fit .ensures) ∙ not-true _ (c .if1 .taken) in
-    record { number = rw f; rows = rw f; columns = rw f; one-to-one = λ e. not-both _ e f; ends = λ e. not-both _ e f }
+    record { number = rw f; rows = rw f; columns = rw f; one-to-one = λ e. not-both _ e f; ends = λ e. not-both _ e f; counted = rw f; at-most = omega arith }
 
 array-borrow-prefix-rows : tie.Need-array-borrow-prefix-rows
 array-borrow-prefix-rows c =
@@ -78,13 +79,15 @@ returns-2 c =
     let a = arg in
     let s = fits-sizes (a .n) (length (now (a .cost))) (length (now (a .x))) (length (now (a .y))) (sym (c .before .before .before .before .before .before .before .before .before .before .before .before .sizes-fit .ensures) ∙ not-false _ (c .before .before .before .before .before .before .before .before .before .before .before .if1 .left)) in
     let f = sym (c .before .before .before .before .before .before .before .before .before .before .before .before .sizes-fit .ensures) ∙ not-false _ (c .before .before .before .before .before .before .before .before .before .before .before .if1 .left) in
-    let e = c .before .before .before .before .before .lapjv-in .ensures in
+    let e = c .before .before .before .before .before .lapjv-in .ensures .0 in
     record {
       number = rw f;
       rows = rw f (sym (ap (λ (p : Pairs). p .x) e));
       columns = rw f (sym (ap (λ (p : Pairs). p .y) e));
       one-to-one = λ _. subst (λ (p : Pairs). OneToOne (a .n) (p .x) (p .y)) e (one-to-one floats (a .n) (now (a .cost)) (s .some));
       ends = λ _. all-end floats (a .n) (now (a .cost)) (s .some);
+      counted = rw f (c .before .before .before .before .before .lapjv-in .ensures .1);
+      at-most = rw (c .before .before .before .before .before .lapjv-in .ensures .1) (reads-most floats (a .n) (now (a .cost)) (s .some));
     }
 
 pub lapjv-spec : {M : Type 1} → statement M

@@ -7,7 +7,8 @@ use native.Mathlib.Omega.{arith}
 use Rattle.lapjv_walk.specs.Carr.{Carr, carrDence}
 use Rattle.lapjv_walk.specs.Ccrt.{Kept}
 use Rattle.lapjv_walk.specs.Ops.{floats}
-use Rattle.lapjv_carr.proofs.Pass.{Going, going-done, going-first, going-marked, going-on, going-row, going-small, going-turn}
+use Rattle.lapjv_walk.specs.Reads.{carrReads}
+use Rattle.lapjv_carr.proofs.Pass.{Going, going-done, going-first, going-marked, going-on, going-row, going-small, going-turn, reads-small}
 use Rattle.lapjv_carr.proofs.carr_dence.Statement.{statement}
 use Rattle.lapjv_carr.proofs.carr_dence.Tie as tie
 
@@ -68,6 +69,15 @@ loop-again c =
     let s : Carr Float = record { rows = l .rows; current = l .current; fresh = l .fresh; turn = l .turn; x = l .x; y = l .y; v = l .v } in
     going-on floats (a .n) (now (a .cost)) k (p .0 .some) s (l .inv) (c .before .before .before .before .before .before .before .before .before .before .before .loop-test .taken) _ (c .before .before .before .before .before .before .carr-turn .ensures (l .turn) refl) refl
 
+mul-reads : tie.Need-mul-reads Inv-loop μ-loop
+mul-reads c =
+    let a = c .before .before .before .before .before .args in
+    let p = c .before .before .before .before .before .pre in
+    let l = c .before .loop in
+    let k : Kept Float = record { rows = now (a .rows); count = a .count; x = now (a .x); y = now (a .y); v = now (a .v) } in
+    let s : Carr Float = record { rows = l .rows; current = l .current; fresh = l .fresh; turn = l .turn; x = l .x; y = l .y; v = l .v } in
+    omega (arith, reads-small floats (a .n) (now (a .cost)) k (p .0 .some) s (l .inv) (p .0 .most))
+
 same-length : tie.Need-same-length Inv-loop μ-loop
 same-length c = c .before .loop .inv .ok .len-rows ∙ sym (c .before .before .before .before .before .pre .1 .len-rows)
 
@@ -81,14 +91,15 @@ same-length-4 : tie.Need-same-length-4 Inv-loop μ-loop
 same-length-4 c = c .before .loop .inv .ok .len-v ∙ sym (c .before .before .before .before .before .pre .1 .len-v)
 
 returns : tie.Need-returns Inv-loop μ-loop
-unfolding carrDence
+unfolding carrDence carrReads
 returns c =
     let a = c .before .before .before .before .before .args in
     let p = c .before .before .before .before .before .pre in
     let l = c .before .loop in
     let k : Kept Float = record { rows = now (a .rows); count = a .count; x = now (a .x); y = now (a .y); v = now (a .v) } in
     let s : Carr Float = record { rows = l .rows; current = l .current; fresh = l .fresh; turn = l .turn; x = l .x; y = l .y; v = l .v } in
-    rw (going-done floats (a .n) (now (a .cost)) k (p .0 .some) s (l .inv) (omega arith))
+    let e = going-done floats (a .n) (now (a .cost)) k (p .0 .some) s (l .inv) (omega arith) in
+    (rw e, rw e)
 
 pub carr-dence-spec : {M : Type 1} → statement M
 carr-dence-spec =
@@ -101,6 +112,7 @@ carr-dence-spec =
     carr-turn-requires
     loop-less
     loop-again
+    mul-reads
     same-length
     same-length-2
     same-length-3

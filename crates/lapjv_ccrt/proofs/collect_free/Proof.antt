@@ -2,26 +2,31 @@
 use mathlib.Core.Path.{ap, sym, _∙_, _≡_}
 use mathlib.Core.Bool.{false}
 use mathlib.Core.Logic.{⊎-elim}
-use Prim.Native.Nat.{_+_, _-_, _<_, ℕ, _≤_}
+use Prim.Native.Nat.{_*_, _+_, _-_, _<_, ℕ, _≤_}
 use borrow.Author.Needs.{needs}
 use denote.Ref.{now}
 use lib.Ieee.{Float}
 use lib.ListN.{length, length-set}
+use native.Mathlib.Nat.{mul-le-mul}
 use native.Mathlib.Omega.{arith}
 use Rattle.lapjv_walk.specs.Ccrt.{Collect, collectStep}
 use Rattle.lapjv_walk.specs.Loops.{walk}
 use Rattle.lapjv_walk.specs.Marks.{free, index, isFree, markAt}
 use Rattle.lapjv_walk.specs.Ops.{floats}
+use Rattle.lapjv_walk.specs.Reads.{aloneReads, collectReads}
 use Rattle.lapjv_walk.proofs.Loops.{walk-more, walk-none}
-use Rattle.lapjv_ccrt.proofs.Collect.{collect-alone, collect-free, collect-other, collect≡}
+use Rattle.lapjv_walk.proofs.Most.{collect-most}
+use Rattle.lapjv_ccrt.proofs.Collect.{collect-alone, collect-free, collect-other, collect≡, alone-reads, free-reads, other-reads}
 use Rattle.lapjv_ccrt.proofs.collect_free.Statement.{statement}
 use Rattle.lapjv_ccrt.proofs.collect_free.Tie as tie
 
 abbrev Inv-loop : tie.InvT-loop
-Inv-loop n cost unique rows₀ x v₀ count₀ i₀ rows v count i = (i ≤ n) × (count ≤ i) × (length rows ≡ n) × (length v ≡ n) × (record { rows = rows; count = count; v = v } ≡ walk (collectStep floats n cost x unique) 0 i (record { rows = rows₀; count = 0; v = v₀ }))
+Inv-loop n cost unique rows₀ x v₀ count₀ reads₀ i₀ rows v count reads i =
+    (i ≤ n) × (count ≤ i) × (length rows ≡ n) × (length v ≡ n) × (record { rows = rows; count = count; v = v } ≡ walk (collectStep floats n cost x unique) 0 i (record { rows = rows₀; count = 0; v = v₀ }))
+    × (reads ≡ walk (λ (k r : ℕ). r + aloneReads n x unique k) 0 i 0)
 
 abbrev μ-loop : tie.MeasureT-loop
-μ-loop n cost unique rows₀ x v₀ count₀ i₀ rows v count i = n - i
+μ-loop n cost unique rows₀ x v₀ count₀ reads₀ i₀ rows v count reads i = n - i
 
 -- the row is marked, or is in range
 column : (c : tie.In-loop Inv-loop μ-loop) →
@@ -31,7 +36,7 @@ column : (c : tie.In-loop Inv-loop μ-loop) →
 column c e = let s = c .before .before .before .before .before .before .pre .3 .seat (c .before .loop .i) (c .loop-test .taken) e in rw (ap index (s .is)) (s .below)
 
 loop-holds : tie.Need-loop-holds Inv-loop μ-loop
-loop-holds c = let p = c .before .before .before .before .pre in (omega arith, omega arith, p .2, p .4, sym (walk-none _ _ _))
+loop-holds c = let p = c .before .before .before .before .pre in (omega arith, omega arith, p .2, p .4, sym (walk-none _ _ _), sym (walk-none _ 0 0))
 
 free-at-requires : tie.Need-free-at-requires Inv-loop μ-loop
 free-at-requires c κs =
@@ -81,6 +86,18 @@ slice-write-v c =
     let pre = c .before .before .before .before .before .before .before .before .before .before .before .before .before .before .pre in
     omega (arith, c .before .before .before .index-at .ensures, column (c .before .before .before .before .before .before .before .before) (sym (c .before .before .before .before .before .before .before .free-at .ensures) ∙ c .before .before .before .before .before .before .if1 .left), pre .0 .most)
 
+sub-reads : tie.Need-sub-reads Inv-loop μ-loop
+sub-reads c = omega (arith, c .before .before .before .before .before .before .before .before .before .before .before .before .before .before .pre .0 .some)
+
+add-reads : tie.Need-add-reads Inv-loop μ-loop
+add-reads c =
+    let a = c .before .before .before .before .before .before .before .before .before .before .before .before .before .before .args in
+    let l = c .before .before .before .before .before .before .before .before .before .loop in
+    let m = c .before .before .before .before .before .before .before .before .before .before .before .before .before .before .pre .0 .most in
+    let row : l .i ≤ 64 = omega arith in
+    let most : l .i * a .n ≤ 64 * 64 = mul-le-mul row m in
+    omega (arith, l .inv .5, collect-most (a .n) (now (a .x)) (now (a .unique)) (l .i), most)
+
 add-i : tie.Need-add-i Inv-loop μ-loop
 add-i c = search needs
 
@@ -92,6 +109,7 @@ turn : (c : tie.Joined1 Inv-loop μ-loop) →
     let arg = c .before .before .before .before .before .before .before .before .args in
     (c .if1 .count ≤ c .before .before .before .loop .i + 1) × (length (c .if1 .rows) ≡ arg .n) × (length (c .if1 .v) ≡ arg .n)
     × (record { rows = c .if1 .rows; count = c .if1 .count; v = c .if1 .v } ≡ collectStep floats (c .before .before .before .before .before .before .before .before .args .n) (now (c .before .before .before .before .before .before .before .before .args .cost)) (now (c .before .before .before .before .before .before .before .before .args .x)) (now (c .before .before .before .before .before .before .before .before .args .unique)) (c .before .before .before .loop .i) (record { rows = c .before .before .before .loop .rows; count = c .before .before .before .loop .count; v = c .before .before .before .loop .v }))
+    × (c .if1 .reads ≡ c .before .before .before .loop .reads + aloneReads (c .before .before .before .before .before .before .before .before .args .n) (now (c .before .before .before .before .before .before .before .before .args .x)) (now (c .before .before .before .before .before .before .before .before .args .unique)) (c .before .before .before .loop .i))
 turn c =
     let arg = c .before .before .before .before .before .before .before .before .args in
     let a = arg in
@@ -104,6 +122,7 @@ turn c =
       rw (w .1) (simp length-set (l .inv .2)),
       rw (w .2) (l .inv .3),
       collect≡ (w .1) (w .3) (w .2) ∙ sym (collect-free floats (a .n) (now (a .cost)) (now (a .x)) (now (a .unique)) (l .i) s (sym free ∙ w .0 .taken)),
+      omega (arith, w .4, free-reads (a .n) (now (a .x)) (now (a .unique)) (l .i) (sym free ∙ w .0 .taken)),
     ))
     (λ z. ⊎-elim
     (λ w. (
@@ -111,12 +130,14 @@ turn c =
       rw (w .7) (l .inv .2),
       rw (w .8) (simp length-set (l .inv .3)),
       collect≡ (w .7) (w .9) (w .8) ∙ sym (collect-alone floats (a .n) (now (a .cost)) (now (a .x)) (now (a .unique)) (l .i) s (w .3 .result) (w .5 .result) (sym free ∙ w .0 .left) (w .2 .taken) (w .3 .ensures) (w .5 .ensures)),
+      w .10 ∙ ap (λ (k : ℕ). l .reads + k) (sym (alone-reads (a .n) (now (a .x)) (now (a .unique)) (l .i) (sym free ∙ w .0 .left) (w .2 .taken))),
     ))
     (λ w. (
       omega (arith, w .5),
       rw (w .3) (l .inv .2),
       rw (w .4) (l .inv .3),
       collect≡ (w .3) (w .5) (w .4) ∙ sym (collect-other floats (a .n) (now (a .cost)) (now (a .x)) (now (a .unique)) (l .i) s (sym free ∙ w .0 .left) (w .2 .left)),
+      omega (arith, w .6, other-reads (a .n) (now (a .x)) (now (a .unique)) (l .i) (sym free ∙ w .0 .left) (w .2 .left)),
     ))
     z)
     (c .if1 .came)
@@ -126,8 +147,14 @@ loop-again c =
     let a = c .before .before .before .before .before .before .before .before .args in
     let l = c .before .before .before .loop in
     let q = turn c in
-    let f : ℕ → Collect Float → Collect Float = collectStep floats (a .n) (now (a .cost)) (now (a .x)) (now (a .unique)) in
-    (omega arith, q .0, q .1, q .2, q .3 ∙ ap (f (l .i)) (l .inv .4) ∙ sym (walk-more f 0 (l .i) _ (omega arith)))
+    let f : ℕ → Collect Float → Collect Float = collectStep floats (a .n) (now (a .cost)) (now (a .x)) (now (a .unique)) in (
+      omega arith,
+      q .0,
+      q .1,
+      q .2,
+      q .3 ∙ ap (f (l .i)) (l .inv .4) ∙ sym (walk-more f 0 (l .i) _ (omega arith)),
+      q .4 ∙ ap (λ (k : ℕ). k + aloneReads (a .n) (now (a .x)) (now (a .unique)) (l .i)) (l .inv .5) ∙ sym (walk-more (λ (k r : ℕ). r + aloneReads (a .n) (now (a .x)) (now (a .unique)) k) 0 (l .i) 0 (omega arith)),
+    )
 
 same-length : tie.Need-same-length Inv-loop μ-loop
 same-length c = c .before .loop .inv .2 ∙ sym (c .before .before .before .before .before .before .pre .2)
@@ -136,9 +163,10 @@ same-length-2 : tie.Need-same-length-2 Inv-loop μ-loop
 same-length-2 c = c .before .loop .inv .3 ∙ sym (c .before .before .before .before .before .before .pre .4)
 
 returns : tie.Need-returns Inv-loop μ-loop
+unfolding collectReads
 returns c =
     let e : c .before .loop .i ≡ c .before .before .before .before .before .before .args .n = omega arith in
-    sym (rw e at (c .before .loop .inv .4))
+    (sym (rw e at (c .before .loop .inv .4)), rw e at (c .before .loop .inv .5))
 
 pub collect-free-spec : {M : Type 1} → statement M
 collect-free-spec =
@@ -158,6 +186,8 @@ collect-free-spec =
     slice-read-v
     mul-v-2
     slice-write-v
+    sub-reads
+    add-reads
     add-i
     loop-less
     loop-again

@@ -6,7 +6,7 @@ use mir.Syntax.{w64}
 use mir.ValLaws.{toZ-ofZ}
 use Rattle.lapjv_walk.specs.Ops.{floats}
 use Rattle.lapjv_walk.proofs.Search.{scan≡}
-use Rattle.lapjv_path.proofs.Turn.{found-columns, turn-finds, turn-scans}
+use Rattle.lapjv_path.proofs.Turn.{finds-reads, found-columns, scans-reads, turn-finds, turn-scans}
 use Rattle.lapjv_path.proofs.search_turn.Statement.{statement}
 use Rattle.lapjv_path.proofs.search_turn.Tie as tie
 
@@ -52,7 +52,8 @@ returns c =
     let f = c .before .before .before .before .before .before .before .before .before .before .before .before .before .before .before .before .find-dense in
     let l = c .before .before .before .before .before .before .before .before .before .before .before .before .last-free in
     let e = rw (toZ-ofZ w64 (l .result) (record { sfits = l .ok })) at (c .before .before .before .before .before .before .before .before .before .before .before .is-free .ensures) in
-    λ h. turn-scans floats (a .n) (now (a .cost)) (now (a .y)) (a .lo) (now (a .d)) (now (a .cols)) (now (a .pred)) (p .4) (p .3) (f .result) _ (f .ensures .0) (f .ensures .1) (l .result) (l .ensures) h (now (a .v)) (p .1) (sym e ∙ c .before .before .before .before .before .before .before .before .before .before .if1 .taken) .1 ∙ c .before .before .before .before .before .before .scan-dense .ensures
+    let none = sym e ∙ c .before .before .before .before .before .before .before .before .before .before .if1 .taken in
+    λ h. (turn-scans floats (a .n) (now (a .cost)) (now (a .y)) (a .lo) (now (a .d)) (now (a .cols)) (now (a .pred)) (p .4) (p .3) (f .result) _ (f .ensures .0) (f .ensures .1) (l .result) (l .ensures) h (now (a .v)) (p .1) none .1 ∙ c .before .before .before .before .before .before .scan-dense .ensures .0, c .before .before .before .before .before .before .scan-dense .ensures .1 ∙ sym (scans-reads floats (a .n) (now (a .cost)) (now (a .y)) (a .lo) (now (a .d)) (now (a .cols)) (now (a .pred)) (p .4) (p .3) (f .result) _ (f .ensures .0) (f .ensures .1) (l .result) (l .ensures) h (now (a .v)) (p .1) none))
 
 same-length-4 : tie.Need-same-length-4
 same-length-4 c = search needs
@@ -68,7 +69,8 @@ returns-2 c =
     let f = c .before .before .before .before .before .before .find-dense in
     let l = c .before .before .last-free in
     let e = rw (toZ-ofZ w64 (l .result) (record { sfits = l .ok })) at (c .before .is-free .ensures) in
-    λ h. turn-finds floats (a .n) (now (a .cost)) (now (a .y)) (a .lo) (now (a .d)) (now (a .cols)) (now (a .pred)) (p .4) (p .3) (f .result) _ (f .ensures .0) (f .ensures .1) (l .result) (l .ensures) h (now (a .v)) (sym e ∙ c .if1 .left) ∙ scan≡ refl refl refl refl refl (sym (toZ-ofZ w64 (l .result) (record { sfits = l .ok })))
+    let found = sym e ∙ c .if1 .left in
+    λ h. (turn-finds floats (a .n) (now (a .cost)) (now (a .y)) (a .lo) (now (a .d)) (now (a .cols)) (now (a .pred)) (p .4) (p .3) (f .result) _ (f .ensures .0) (f .ensures .1) (l .result) (l .ensures) h (now (a .v)) found ∙ scan≡ refl refl refl refl refl (sym (toZ-ofZ w64 (l .result) (record { sfits = l .ok }))), sym (finds-reads floats (a .n) (now (a .cost)) (now (a .y)) (a .lo) (now (a .d)) (now (a .cols)) (now (a .pred)) (p .4) (p .3) (f .result) _ (f .ensures .0) (f .ensures .1) (l .result) (l .ensures) h (now (a .v)) found))
 
 pub search-turn-spec : {M : Type 1} → statement M
 search-turn-spec =

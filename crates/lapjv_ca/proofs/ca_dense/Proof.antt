@@ -1,26 +1,37 @@
--- `lapjv::ca_dense` meets its contract. Assumes nothing.
+-- `lapjv_ca::ca_dense` meets its contract. Assumes nothing.
 use mathlib.Core.Path.{ap, subst, sym, _∙_, _≡_}
-use Prim.Native.Nat.{_-_, ℕ, _≤_}
+use mathlib.Core.List.{List}
+use Prim.Native.Nat.{_+_, _-_, ℕ, _≤_}
 use borrow.Author.Needs.{needs}
 use denote.Ref.{now}
 use lib.Ieee.{Float}
+use lib.IntN.{ℤ}
 use lib.ListN.{length}
 use native.Mathlib.Omega.{arith}
+use Rattle.lapjv_walk.specs.Ccrt.{Kept}
 use Rattle.lapjv_walk.specs.Holds.{Queue, Waits}
 use Rattle.lapjv_walk.specs.Lapjv.{Ca, caDense, caStep}
 use Rattle.lapjv_walk.specs.Marks.{numAt}
 use Rattle.lapjv_walk.specs.Ops.{floats}
+use Rattle.lapjv_walk.specs.Reads.{caReads, findPathReads}
 use Rattle.lapjv_walk.proofs.Ca.{After, columns-left, columns-marked, queue-at, row-ends, start-below}
 use Rattle.lapjv_walk.proofs.Loops.{walk-more, walk-none}
-use Rattle.lapjv.proofs.Ranged.{paired-ranged}
-use Rattle.lapjv.proofs.ca_dense.Statement.{statement}
-use Rattle.lapjv.proofs.ca_dense.Tie as tie
+use Rattle.lapjv_walk.proofs.Most.{ca-more, ca-none, ca-small}
+use Rattle.lapjv_ca.proofs.Ranged.{paired-ranged}
+use Rattle.lapjv_ca.proofs.ca_dense.Statement.{statement}
+use Rattle.lapjv_ca.proofs.ca_dense.Tie as tie
 
 abbrev Inv-loop : tie.InvT-loop
-Inv-loop n cost count rows pred₀ x₀ y₀ v₀ r₀ pred x y v r = (r ≤ count) × (length pred ≡ n) × (length v ≡ n) × (record { x = x; y = y; v = v } ≡ caDense floats n cost r (record { rows = rows; count = count; x = x₀; y = y₀; v = v₀ }))
+Inv-loop n cost count rows pred₀ x₀ y₀ v₀ reads₀ r₀ pred x y v reads r =
+    (r ≤ count) × (length pred ≡ n) × (length v ≡ n) × (record { x = x; y = y; v = v } ≡ caDense floats n cost r (record { rows = rows; count = count; x = x₀; y = y₀; v = v₀ }))
+    × (reads ≡ caReads floats n cost r (record { rows = rows; count = count; x = x₀; y = y₀; v = v₀ }))
 
 abbrev μ-loop : tie.MeasureT-loop
-μ-loop n cost count rows pred₀ x₀ y₀ v₀ r₀ pred x y v r = count - r
+μ-loop n cost count rows pred₀ x₀ y₀ v₀ reads₀ r₀ pred x y v reads r = count - r
+
+-- a row's reads join those before it
+joined-reads : (f : List ℤ → List Float → ℕ) {k j t u : ℕ} {s r : Ca Float} → k ≡ t → s ≡ r → j ≡ f (s .y) (s .v) → u ≡ t + f (r .y) (r .v) → k + j ≡ u
+joined-reads f {k} {j} {t} {u} {s} {r} ek es ej eu = omega (arith, ek, eu, ej ∙ ap (λ (z : Ca Float). f (z .y) (z .v)) es)
 
 -- the rows not yet reached wait
 queue : (c : tie.At-loop Inv-loop μ-loop) → Queue (c .before .before .before .before .before .args .n) (λ p. After (c .before .before .before .before .before .args .count) (c .loop .r) p) (now (c .before .before .before .before .before .args .rows)) (c .loop .x) (c .loop .y)
@@ -31,7 +42,7 @@ queue c =
 
 loop-holds : tie.Need-loop-holds Inv-loop μ-loop
 unfolding caDense
-loop-holds c = let p = c .before .before .before .before .pre in (omega arith, p .1, p .2 .len-v, sym (walk-none _ _ _))
+loop-holds c = let a = c .before .before .before .before .args in let p = c .before .before .before .before .pre in (omega arith, p .1, p .2 .len-v, sym (walk-none _ _ _), sym (ca-none floats (a .n) (now (a .cost)) _))
 
 mul-start : tie.Need-mul-start Inv-loop μ-loop
 mul-start c = search needs
@@ -59,6 +70,15 @@ ca-row-requires c κs =
       row-ends floats (a .n) (now (a .cost)) (now (a .rows)) (a .count) (l .r) s h q,
     )
 
+add-reads : tie.Need-add-reads Inv-loop μ-loop
+add-reads c =
+    let a = c .before .before .before .before .before .before .before .before .before .before .before .before .before .before .before .before .before .before .args in
+    let p = c .before .before .before .before .before .before .before .before .before .before .before .before .before .before .before .before .before .before .pre in
+    let l = c .before .before .before .before .before .before .before .before .before .before .before .before .before .loop in
+    let k₀ : Kept Float = record { rows = now (a .rows); count = a .count; x = now (a .x); y = now (a .y); v = now (a .v) } in
+    let more : l .reads + c .before .before .before .before .before .before .ca-row .result ≡ caReads floats (a .n) (now (a .cost)) (l .r + 1) k₀ = joined-reads (findPathReads floats (a .n) (now (a .cost)) (numAt (now (a .rows)) (l .r))) (l .inv .4) (l .inv .3) (c .before .before .before .before .before .before .ca-row .ensures .1) (ca-more floats (a .n) (now (a .cost)) (l .r) k₀) in
+    omega (arith, ca-small floats (a .n) (now (a .cost)) (l .r + 1) k₀ (p .0 .most) (omega (arith, p .0 .most, p .2 .count-n)))
+
 add-r : tie.Need-add-r Inv-loop μ-loop
 add-r c = search needs
 
@@ -73,11 +93,14 @@ loop-again c =
     let a = arg in
     let l = cur in
     let f : ℕ → Ca Float → Ca Float = λ r t. caStep floats (a .n) (now (a .cost)) (numAt (now (a .rows)) r) t in
+    let k₀ : Kept Float = record { rows = now (a .rows); count = a .count; x = now (a .x); y = now (a .y); v = now (a .v) } in
+    let more : l .reads + c .before .before .before .before .before .before .ca-row .result ≡ caReads floats (a .n) (now (a .cost)) (l .r + 1) k₀ = joined-reads (findPathReads floats (a .n) (now (a .cost)) (numAt (now (a .rows)) (l .r))) (l .inv .4) (l .inv .3) (c .before .before .before .before .before .before .ca-row .ensures .1) (ca-more floats (a .n) (now (a .cost)) (l .r) k₀) in
     let k = c .before .before .before .before .before .before .ca-row .kept in (
       omega arith,
       k .1 .1 .1 .0 ∙ l .inv .1,
       k .1 .1 .1 .1 .1 .1 .0 ∙ l .inv .2,
-      sym (c .before .before .before .before .before .before .ca-row .ensures) ∙ ap (f (l .r)) (l .inv .3) ∙ sym (walk-more f 0 (l .r) _ (omega arith)),
+      sym (c .before .before .before .before .before .before .ca-row .ensures .0) ∙ ap (f (l .r)) (l .inv .3) ∙ sym (walk-more f 0 (l .r) _ (omega arith)),
+      more,
     )
 
 same-length : tie.Need-same-length Inv-loop μ-loop
@@ -95,7 +118,7 @@ same-length-4 c = c .before .loop .inv .2 ∙ sym (c .before .before .before .be
 returns : tie.Need-returns Inv-loop μ-loop
 returns c =
     let e : c .before .loop .r ≡ c .before .before .before .before .before .before .args .count = omega arith in
-    sym (rw e at (c .before .loop .inv .3))
+    (sym (rw e at (c .before .loop .inv .3)), rw e at (c .before .loop .inv .4))
 
 pub ca-dense-spec : {M : Type 1} → statement M
 ca-dense-spec =
@@ -107,6 +130,7 @@ ca-dense-spec =
     mul-start
     shared-slice-read-start
     ca-row-requires
+    add-reads
     add-r
     loop-less
     loop-again

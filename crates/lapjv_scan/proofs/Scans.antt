@@ -71,8 +71,11 @@ module _ (O : Ops) (n : ℕ) (cost : List (O .C)) (y : List ℤ) (v : List (O .C
         free-of z (inl e) t = e
         free-of z (inr e) t = not-both (isFree z) t e
 
+        pub scans-none : isFree (r .found) ≡ true → r .found ≡ free
+        scans-none e = free-of (r .found) (subst (λ (t : Scan (O .C)). (t .found ≡ free) ⊎ (isFree (t .found) ≡ false)) er (turn-found O n cost y v (λ _. Unit) m s (g .held .hi-n) (g .none))) e
+
         -- none is, and the next column comes
         pub scans-on : r .lo ≡ s .lo + 1 → isFree (r .found) ≡ true → Scans s₀ (record { lo = s .lo + 1; hi = r .hi; d = r .d; cols = r .cols; pred = r .pred; found = free })
         scans-on el e =
-            let z : r .found ≡ free = free-of (r .found) (subst (λ (t : Scan (O .C)). (t .found ≡ free) ⊎ (isFree (t .found) ≡ false)) er (turn-found O n cost y v (λ _. Unit) m s (g .held .hi-n) (g .none))) e in
+            let z : r .found ≡ free = scans-none e in
             subst (λ (t : Scan (O .C)). Scans s₀ t) (scan≡ el refl refl refl refl z) (record { held = turn-held; none = z; same = ap (λ (k : ℕ). runs scanMore (scanTurn O n cost y v) (n - k) r) el ∙ runs-rest })

@@ -11,7 +11,7 @@ use Rattle.lapjv_walk.specs.Holds.{Paired}
 use Rattle.lapjv_walk.specs.Lapjv.{Trail}
 use Rattle.lapjv_walk.specs.Marks.{markAt}
 use Rattle.lapjv_walk.proofs.Ca.{column-below}
-use Rattle.lapjv.specs.Answer.{Ranged}
+use Rattle.lapjv_walk.specs.Holds.{Ranged}
 
 pub ranged-set : (n : ℕ) (x : List ℤ) (i j : ℕ) → Ranged n x → i < n → j < n → Ranged n (set x i (pos j))
 ranged-set n x i j r hi hj = record {

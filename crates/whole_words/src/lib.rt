@@ -1,4 +1,4 @@
-// Signed whole numbers in decimal, from -2^63 to 2^63 - 1.
+// Signed whole numbers in decimal, from -2^63 to 2^63 - 1, as the comparison's lines have them.
 use protocol::Count;
 use protocol::byte_at;
 use protocol::next;

@@ -1,4 +1,4 @@
--- `lapjv_path::scan_row` meets its contract. Assumes nothing.
+-- `lapjv_scan::scan_row` meets its contract. Assumes nothing.
 use mathlib.Core.Path.{ap, refl, subst, sym, _∙_, _≡_}
 use mathlib.Core.Logic.{⊎-elim}
 use Prim.Native.Nat.{_+_, _-_, _<_, ℕ, _≤_}
@@ -9,17 +9,21 @@ use mir.Syntax.{w64}
 use mir.ValLaws.{toZ-ofZ}
 use native.Mathlib.Omega.{arith}
 use Rattle.lapjv_walk.specs.Holds.{Square}
-use Rattle.lapjv_walk.specs.Loops.{walk}
+use Rattle.lapjv_walk.specs.Loops.{walk, walkSum}
 use Rattle.lapjv_walk.specs.Marks.{free}
 use Rattle.lapjv_walk.specs.Ops.{floats}
 use Rattle.lapjv_walk.specs.Path.{Scan, scanRow, scanStep}
+use Rattle.lapjv_walk.specs.Reads.{scanRowReads, tryReads}
 use Rattle.lapjv_walk.proofs.Loops.{walk-more, walk-none, walk-stop}
 use Rattle.lapjv_walk.proofs.Search.{found-fixed, row-ok, RowOk, scan-found, scan-join, scan-lower, scan-skip, scan≡}
-use Rattle.lapjv_path.proofs.scan_row.Statement.{statement}
-use Rattle.lapjv_path.proofs.scan_row.Tie as tie
+use Rattle.lapjv_scan.proofs.Counts.{tries-first, tries-found, tries-on}
+use Rattle.lapjv_scan.proofs.scan_row.Statement.{statement}
+use Rattle.lapjv_scan.proofs.scan_row.Tie as tie
 
 abbrev Inv-loop : tie.InvT-loop
-Inv-loop n cost i h mind from d₀ cols₀ pred₀ y v hi₀ k₀ d cols pred hi k = (from ≤ k) × (k ≤ n) × ((lo : ℕ) → record { lo = lo; hi = hi; d = d; cols = cols; pred = pred; found = free } ≡ walk (scanStep floats n cost y v i h mind) from k (record { lo = lo; hi = from; d = d₀; cols = cols₀; pred = pred₀; found = free }))
+Inv-loop n cost i h mind from d₀ cols₀ pred₀ y v hi₀ k₀ d cols pred hi k =
+    (from ≤ k) × (k ≤ n) × ((lo : ℕ) → record { lo = lo; hi = hi; d = d; cols = cols; pred = pred; found = free } ≡ walk (scanStep floats n cost y v i h mind) from k (record { lo = lo; hi = from; d = d₀; cols = cols₀; pred = pred₀; found = free }))
+    × ((lo : ℕ) → walkSum (scanStep floats n cost y v i h mind) tryReads from k (record { lo = lo; hi = from; d = d₀; cols = cols₀; pred = pred₀; found = free }) ≡ k - from)
 
 abbrev μ-loop : tie.MeasureT-loop
 μ-loop n cost i h mind from d₀ cols₀ pred₀ y v hi₀ k₀ d cols pred hi k = n - k
@@ -54,7 +58,9 @@ facts c =
     record { square = p .0; small = p .0 .most; row = p .1; k-n = c .loop-test .taken; hi-k = o .hi-k; j-n = o .apart .below (c .before .loop .k) (c .loop-test .taken); len-d = o .len-d; len-cols = o .apart .len; len-pred = o .len-pred; len-y = p .6; len-v = p .7 }
 
 loop-holds : tie.Need-loop-holds Inv-loop μ-loop
-loop-holds c = (omega arith, omega arith, λ lo. sym (walk-none _ _ _))
+loop-holds c =
+    let a = c .before .before .before .before .before .args in
+    (omega arith, omega arith, (λ lo. sym (walk-none _ _ _)), λ lo. tries-first floats (a .n) (now (a .cost)) (now (a .y)) (now (a .v)) (a .i) (a .h) (a .mind) (a .from) _)
 
 mul-j : tie.Need-mul-j Inv-loop μ-loop
 mul-j c = let f = facts (c) in omega arith
@@ -95,6 +101,12 @@ free-at-requires c κs = let f = facts (c .before .before .before .before .befor
 mark-requires : tie.Need-mark-requires Inv-loop μ-loop
 mark-requires c κs = let f = facts (c .before .before .before .before .before .before .before .before) in omega arith
 
+add-reads : tie.Need-add-reads Inv-loop μ-loop
+add-reads c = let f = facts (c .before .before .before .before .before .before .before .before) in omega arith
+
+sub-reads : tie.Need-sub-reads Inv-loop μ-loop
+sub-reads c = omega arith
+
 same-length : tie.Need-same-length Inv-loop μ-loop
 same-length c =
     let pre = c .before .before .before .before .before .before .before .before .before .before .before .before .before .before .before .before .pre in
@@ -111,7 +123,7 @@ same-length-3 c =
     let f = facts (c .before .before .before .before .before .before .before .before .before) in simp length-set (f .len-pred ∙ sym (pre .5))
 
 returns : tie.Need-returns Inv-loop μ-loop
-unfolding scanRow
+unfolding scanRow scanRowReads
 returns c =
     let arg = c .before .before .before .before .before .before .before .before .before .before .before .before .before .before .before .before .args in
     λ lo.
@@ -119,7 +131,12 @@ returns c =
     let l = c .before .before .before .before .before .before .before .before .before .before in
     let f = scanStep floats (a .n) (now (a .cost)) (now (a .y)) (now (a .v)) (a .i) (a .h) (a .mind) in
     let e : f (l .loop .k) (record { lo = lo; hi = l .loop .hi; d = l .loop .d; cols = l .loop .cols; pred = l .loop .pred; found = free }) ≡ _ = scan-found floats (a .n) (now (a .cost)) (now (a .y)) (now (a .v)) (a .i) (a .h) (a .mind) (l .loop .k) (record { lo = lo; hi = l .loop .hi; d = l .loop .d; cols = l .loop .cols; pred = l .loop .pred; found = free }) (c .before .before .before .before .before .before .before .cost-at .result) (c .before .before .before .before .before .before .before .cost-at .ensures) refl (c .before .before .before .before .if1 .taken) (c .before .before .before .if2 .taken) (sym (c .before .before .free-at .ensures) ∙ c .before .if3 .taken) in
-    walk-stop f (a .from) (l .loop .k + 1) (a .n) _ _ (omega arith) (omega arith) (λ i. found-fixed floats (a .n) (now (a .cost)) (now (a .y)) (now (a .v)) (a .i) (a .h) (a .mind) i _ (rw (toZ-ofZ w64 (c .mark .result) (record { sfits = c .mark .ok }), c .mark .ensures))) (walk-more f (a .from) (l .loop .k) _ (l .loop .inv .0) ∙ ap (f (l .loop .k)) (sym (l .loop .inv .2 lo)) ∙ e ∙ scan≡ refl refl refl refl refl (rw (toZ-ofZ w64 (c .mark .result) (record { sfits = c .mark .ok }), c .mark .ensures)))
+    let z = toZ-ofZ w64 (c .mark .result) (record { sfits = c .mark .ok }) in
+    let s₀ : Scan Float = record { lo = lo; hi = a .from; d = now (a .d); cols = now (a .cols); pred = now (a .pred); found = free } in
+    let w : walk f (a .from) (l .loop .k + 1) s₀ ≡ _ = walk-more f (a .from) (l .loop .k) _ (l .loop .inv .0) ∙ ap (f (l .loop .k)) (sym (l .loop .inv .2 lo)) ∙ e in (
+      walk-stop f (a .from) (l .loop .k + 1) (a .n) _ _ (omega arith) (omega arith) (λ i. found-fixed floats (a .n) (now (a .cost)) (now (a .y)) (now (a .v)) (a .i) (a .h) (a .mind) i _ (rw (z, c .mark .ensures))) (w ∙ scan≡ refl refl refl refl refl (rw (z, c .mark .ensures))),
+      sym (tries-found floats (a .n) (now (a .cost)) (now (a .y)) (now (a .v)) (a .i) (a .h) (a .mind) (a .from) s₀ (l .loop .k) (l .loop .inv .0) _ (l .loop .inv .2 lo) refl (l .loop .inv .3 lo) (omega arith) _ w refl),
+    )
 
 mul-cols : tie.Need-mul-cols Inv-loop μ-loop
 mul-cols c = let f = facts (c .before .before .before .before .before .before .before .before) in omega arith
@@ -168,8 +185,15 @@ loop-again : tie.Need-loop-again Inv-loop μ-loop
 loop-again c =
     let l = c .before .before .before .before .before .before in
     let a = c .before .before .before .before .before .before .before .before .before .before .before .before .args in
-    let f = scanStep floats (a .n) (now (a .cost)) (now (a .y)) (now (a .v)) (a .i) (a .h) (a .mind) in
-    (omega arith, omega arith, λ lo. next c lo ∙ ap (f (l .loop .k)) (l .loop .inv .2 lo) ∙ sym (walk-more f (a .from) (l .loop .k) _ (l .loop .inv .0)))
+    let f = scanStep floats (a .n) (now (a .cost)) (now (a .y)) (now (a .v)) (a .i) (a .h) (a .mind) in (
+      omega arith,
+      omega arith,
+      (λ lo. next c lo ∙ ap (f (l .loop .k)) (l .loop .inv .2 lo) ∙ sym (walk-more f (a .from) (l .loop .k) _ (l .loop .inv .0))),
+      λ lo. tries-on floats (a .n) (now (a .cost)) (now (a .y)) (now (a .v)) (a .i) (a .h) (a .mind) (a .from) _ (l .loop .k) (l .loop .inv .0) _ (l .loop .inv .2 lo) refl (l .loop .inv .3 lo),
+    )
+
+sub-reads-2 : tie.Need-sub-reads-2 Inv-loop μ-loop
+sub-reads-2 c = omega arith
 
 same-length-4 : tie.Need-same-length-4 Inv-loop μ-loop
 same-length-4 c = ok (c .before) .len-d ∙ sym (c .before .before .before .before .before .before .before .pre .3)
@@ -181,11 +205,11 @@ same-length-6 : tie.Need-same-length-6 Inv-loop μ-loop
 same-length-6 c = ok (c .before) .len-pred ∙ sym (c .before .before .before .before .before .before .before .pre .5)
 
 returns-2 : tie.Need-returns-2 Inv-loop μ-loop
-unfolding scanRow
+unfolding scanRow scanRowReads
 returns-2 c =
     let a = c .before .before .before .before .before .before .before .args in
     let e : c .before .loop .k ≡ a .n = omega arith in
-    λ lo. sym (rw e at (c .before .loop .inv .2 lo))
+    λ lo. (sym (rw e at (c .before .loop .inv .2 lo)), sym (rw e at (c .before .loop .inv .3 lo)))
 
 pub scan-row-spec : {M : Type 1} → statement M
 scan-row-spec =
@@ -206,6 +230,8 @@ scan-row-spec =
     mul-pred
     slice-write-pred
     free-at-requires
+    add-reads
+    sub-reads
     mark-requires
     same-length
     same-length-2
@@ -221,6 +247,7 @@ scan-row-spec =
     add-k
     loop-less
     loop-again
+    sub-reads-2
     same-length-4
     same-length-5
     same-length-6

@@ -1,10 +1,10 @@
--- `lap_lines::whole_words::read_all` meets its contract. Assumes nothing.
+-- `whole_words::read_all` meets its contract. Assumes nothing.
 use borrow.Author.Needs.{needs}
 use mathlib.Core.Path.{_≡_}
 use Prim.Native.Nat.{_-_}
 use lib.ListN.{length}
-use Rattle.lap_lines.proofs.whole_words.read_all.Statement.{statement}
-use Rattle.lap_lines.proofs.whole_words.read_all.Tie as tie
+use Rattle.whole_words.proofs.read_all.Statement.{statement}
+use Rattle.whole_words.proofs.read_all.Tie as tie
 
 abbrev Inv-loop : tie.InvT-loop
 Inv-loop line at into₀ n good₀ p₀ i₀ into good p i = length into ≡ length into₀

@@ -1,4 +1,4 @@
--- `lapjv::augment` meets its contract. Assumes nothing.
+-- `lapjv_ca::augment` meets its contract. Assumes nothing.
 use mathlib.Core.Path.{ap, refl, sym, _∙_, _≡_}
 use mathlib.Core.Bool.{true}
 use Prim.Native.Nat.{_<_}
@@ -10,11 +10,11 @@ use native.Mathlib.Nat.{le-refl}
 use native.Mathlib.Omega.{arith}
 use Rattle.lapjv_walk.specs.Lapjv.{augment, hop, hopMore, Trail}
 use Rattle.lapjv_walk.specs.Marks.{numAt}
-use Rattle.lapjv.specs.Answer.{Ranged}
-use Rattle.lapjv.proofs.Budget.{Leads, leads-end, leads-less, leads-on, turnsLeft}
-use Rattle.lapjv.proofs.Ranged.{ranged-set, trail≡}
-use Rattle.lapjv.proofs.augment.Statement.{statement}
-use Rattle.lapjv.proofs.augment.Tie as tie
+use Rattle.lapjv_walk.specs.Holds.{Ranged}
+use Rattle.lapjv_ca.proofs.Budget.{Leads, leads-end, leads-less, leads-on, turnsLeft}
+use Rattle.lapjv_ca.proofs.Ranged.{ranged-set, trail≡}
+use Rattle.lapjv_ca.proofs.augment.Statement.{statement}
+use Rattle.lapjv_ca.proofs.augment.Tie as tie
 
 abbrev Inv-loop : tie.InvT-loop
 Inv-loop n pred start last x₀ y₀ i₀ j₀ x y i j = (j < n) × Ranged n x × (length y ≡ n) × Leads (hopMore start) (hop pred) n (augment n pred start last x₀ y₀) (record { row = i; j = j; x = x; y = y })

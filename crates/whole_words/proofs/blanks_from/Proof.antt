@@ -1,9 +1,9 @@
--- `lap_lines::whole_words::blanks_from` meets its contract. Assumes nothing.
+-- `whole_words::blanks_from` meets its contract. Assumes nothing.
 use borrow.Author.Needs.{needs}
 use Prim.Native.Nat.{_-_}
 use lib.ListN.{length}
-use Rattle.lap_lines.proofs.whole_words.blanks_from.Statement.{statement}
-use Rattle.lap_lines.proofs.whole_words.blanks_from.Tie as tie
+use Rattle.whole_words.proofs.blanks_from.Statement.{statement}
+use Rattle.whole_words.proofs.blanks_from.Tie as tie
 
 abbrev Inv-loop : tie.InvT-loop
 Inv-loop line at n₀ i₀ n i = Unit {0}

@@ -1,4 +1,4 @@
--- `lapjv::column_at` meets its contract. Assumes nothing.
+-- `lapjv_ca::column_at` meets its contract. Assumes nothing.
 use mathlib.Core.Path.{refl, sym, _∙_, _≡_}
 use mathlib.Core.Bool.{true}
 use borrow.Author.Needs.{needs}
@@ -6,8 +6,8 @@ use denote.Ref.{now}
 use lib.IntN.{negsuc, pos, ℤ}
 use Rattle.lapjv_walk.specs.Marks.{index, isFree, markAt}
 use Rattle.lapjv_walk.proofs.Cases.{never}
-use Rattle.lapjv.proofs.column_at.Statement.{statement}
-use Rattle.lapjv.proofs.column_at.Tie as tie
+use Rattle.lapjv_ca.proofs.column_at.Statement.{statement}
+use Rattle.lapjv_ca.proofs.column_at.Tie as tie
 
 free-index : (z : ℤ) → isFree z ≡ true → 0 ≡ index z
 free-index (pos k) e = never e
