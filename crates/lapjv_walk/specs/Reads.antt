@@ -1,4 +1,4 @@
--- Document 02, 2.12: how many cost entries the walk reads. A read is one `costAt` of Ccrt, Carr, Path and Lapjv, where the Rust has `cost[i][j]`; each step's reads, in their order. Definitions only.
+-- Document 02, 2.12: how many cost entries the walk reads. A read is one `costAt` of Ccrt, Carr and Path, where the Rust has `cost[i][j]`; each step's reads, in their order. Definitions only.
 use mathlib.Core.Bool.{Bool, false}
 use mathlib.Core.List.{List}
 use Prim.Native.Nat.{ℕ, _+_, _-_, _*_}
