@@ -34,8 +34,20 @@ const EDGES: [u32; 27] = [
     0x7FFF_FFFF,
 ];
 
-pub const KINDS: [&str; 12] =
-    ["floats", "matrices", "lap", "lapint", "boxes", "filter", "assoc", "states", "calls", "runs", "shortcuts", "lapreads"];
+pub const KINDS: [&str; 12] = [
+    "floats",
+    "matrices",
+    "lap",
+    "lapint",
+    "boxes",
+    "filter",
+    "assoc",
+    "states",
+    "calls",
+    "runs",
+    "shortcuts",
+    "lapreads",
+];
 
 /// All lines of a kind.
 pub fn lines(kind: &str, seed: u64) -> Vec<u8> {
