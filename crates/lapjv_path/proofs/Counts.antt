@@ -10,10 +10,9 @@ use Rattle.lapjv_walk.specs.Marks.{free, isFree}
 use Rattle.lapjv_walk.specs.Ops.{Ops}
 use Rattle.lapjv_walk.specs.Path.{Scan, searchFrom, searchMore, searchTurn}
 use Rattle.lapjv_walk.specs.Reads.{searchReads, searchTurnReads}
-use Rattle.lapjv_walk.proofs.Loops.{runs-sum-done, runs-sum-more}
-use Rattle.lapjv_walk.proofs.Most.{path-most}
+use Rattle.lapjv_walk.proofs.Loops.{runs-sum-done, runs-sum-on}
+use Rattle.lapjv_walk.proofs.Most.{path-most, search-small}
 use Rattle.lapjv_walk.proofs.Search.{scan≡}
-use Rattle.lapjv_scan.proofs.Counts.{square-most}
 
 module _ (O : Ops) (n : ℕ) (cost : List (O .C)) (y : List ℤ) (v : List (O .C)) (start : ℕ) where
   pub record Spent (lo : ℕ) (d : List (O .C)) (cols pred : List ℕ) (reads : ℕ) : Type 0 where
@@ -36,12 +35,10 @@ module _ (O : Ops) (n : ℕ) (cost : List (O .C)) (y : List ℤ) (v : List (O .C
     unfolding searchMore
     spent =
         let e : p .left ≡ suc (p .left - 1) = omega (arith, p .enough) in
-        let m = runs-sum-more searchMore (searchTurn O n cost y v) (searchTurnReads O n cost y v) (p .left - 1) s refl in
-        let w : k + runsSum searchMore (searchTurn O n cost y v) (searchTurnReads O n cost y v) (suc (p .left - 1)) s ≡ searchReads O n cost start y v = rw e at (p .total) in
-        rw (← er) (omega (arith, w, m, ej))
+        runs-sum-on searchMore (searchTurn O n cost y v) (searchTurnReads O n cost y v) (p .left - 1) k j _ s r refl er ej (rw e at (p .total))
 
     pub spent-small : n ≤ 64 → k + j ≤ 4160
-    spent-small h = omega (arith, spent, path-most O n cost start y v, square-most n h)
+    spent-small h = omega (arith, spent, path-most O n cost start y v, search-small n h)
 
     pub spent-found : isFree (r .found) ≡ false → k + j ≡ searchReads O n cost start y v
     unfolding searchMore

@@ -2,22 +2,18 @@
 use mathlib.Core.Path.{ap, refl, subst, sym, _∙_, _≡_}
 use mathlib.Core.Bool.{false, true}
 use mathlib.Core.List.{List}
-use Prim.Native.Nat.{_*_, _+_, _-_, _<_, suc, ℕ, _≤_}
+use Prim.Native.Nat.{_+_, _-_, _<_, suc, ℕ, _≤_}
 use lib.IntN.{ℤ}
-use native.Mathlib.Nat.{mul-le-mul, mul-le-mul-left, sub-self}
+use native.Mathlib.Nat.{mul-le-mul-left, sub-self}
 use native.Mathlib.Omega.{arith}
 use Rattle.lapjv_walk.specs.Loops.{runsSum, walk, walkSum}
 use Rattle.lapjv_walk.specs.Marks.{free, index, isFree, markAt, numAt}
 use Rattle.lapjv_walk.specs.Ops.{costAt, Ops, valAt}
 use Rattle.lapjv_walk.specs.Path.{Scan, scanMore, scanStep, scanTurn}
 use Rattle.lapjv_walk.specs.Reads.{scanReads, scanRowReads, scanTurnReads, tryReads}
-use Rattle.lapjv_walk.proofs.Loops.{walk-sum-more, walk-sum-none, walk-sum-stop, runs-sum-done, runs-sum-more}
-use Rattle.lapjv_walk.proofs.Most.{scan-most}
+use Rattle.lapjv_walk.proofs.Loops.{runs-sum-done, runs-sum-on, walk-sum-more, walk-sum-none, walk-sum-stop}
+use Rattle.lapjv_walk.proofs.Most.{scan-most, search-small}
 use Rattle.lapjv_walk.proofs.Search.{found-fixed, more-found, more-met, scan≡}
-
--- (n + 1)n, for n up to 64
-pub square-most : (n : ℕ) → n ≤ 64 → (n + 1) * n ≤ 4160
-square-most n h = let a : n + 1 ≤ 65 = omega arith in mul-le-mul a h
 
 module _ (O : Ops) (n : ℕ) (cost : List (O .C)) (y : List ℤ) (v : List (O .C)) where
   abbrev pub ScanCount : Scan (O .C) → Scan (O .C) → ℕ → Type 0
@@ -41,9 +37,7 @@ module _ (O : Ops) (n : ℕ) (cost : List (O .C)) (y : List ℤ) (v : List (O .C
     counted : k + j + runsSum scanMore (scanTurn O n cost y v) (scanTurnReads O n cost y v) (n - (s .lo + 1)) r ≡ scanReads O n cost y v s₀
     counted =
         let e : n - s .lo ≡ suc (n - (s .lo + 1)) = omega arith in
-        let m = runs-sum-more scanMore (scanTurn O n cost y v) (scanTurnReads O n cost y v) (n - (s .lo + 1)) s more in
-        let w : k + runsSum scanMore (scanTurn O n cost y v) (scanTurnReads O n cost y v) (suc (n - (s .lo + 1))) s ≡ scanReads O n cost y v s₀ = rw e at t in
-        rw (← er) (omega (arith, w, m, ej))
+        runs-sum-on scanMore (scanTurn O n cost y v) (scanTurnReads O n cost y v) (n - (s .lo + 1)) k j _ s r more er ej (rw e at t)
 
     pub count-found : isFree (r .found) ≡ false → k + j ≡ scanReads O n cost y v s₀
     count-found e = omega (arith, counted, runs-sum-done scanMore (scanTurn O n cost y v) (scanTurnReads O n cost y v) (n - (s .lo + 1)) r (more-found r e))
@@ -54,7 +48,7 @@ module _ (O : Ops) (n : ℕ) (cost : List (O .C)) (y : List ℤ) (v : List (O .C
     pub count-small : n ≤ 64 → s₀ .lo ≤ n → k + j ≤ 4160
     count-small h l =
         let p = scan-most O n cost y v s₀ l in
-        omega (arith, counted, p .0, mul-le-mul-left (n + 1) (p .1), square-most n h)
+        omega (arith, counted, p .0, mul-le-mul-left (n + 1) (p .1), search-small n h)
 
   -- ---- a row's scan: one for each column tried, up to the one found
 

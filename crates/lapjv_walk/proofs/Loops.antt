@@ -104,3 +104,7 @@ module _ {S : Type 0} (more : S → Bool) (f : S → S) (g : S → ℕ) where
   pub runs-sum-more : (m : ℕ) (s : S) → more s ≡ true → runsSum more f g (suc m) s ≡ g s + runsSum more f g m (f s)
   unfolding runsSum
   runs-sum-more m s e = rw e
+
+  -- a turn's number joins the sum so far, and the turns left still make up the whole
+  pub runs-sum-on : (m sum turn whole : ℕ) (s r : S) → more s ≡ true → f s ≡ r → turn ≡ g s → sum + runsSum more f g (suc m) s ≡ whole → sum + turn + runsSum more f g m r ≡ whole
+  runs-sum-on m sum turn whole s r e er et w = rw (← er) (omega (arith, w, runs-sum-more m s e, et))

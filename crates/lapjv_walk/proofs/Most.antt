@@ -6,7 +6,7 @@ use mathlib.Core.Logic.{inl, inr, _⊎_, ⊎-elim}
 use Prim.Native.Nat.{_*_, _+_, _-_, _^_, _<_, suc, zero, ℕ, _≤_}
 use lib.IntN.{pos, ℤ}
 use lib.ListN.{getD}
-use native.Mathlib.Nat.{add-mul, mul-add, mul-assoc, mul-le-mul, mul-le-mul-left, mul-le-mul-right, mul-one, one-mul, pow-suc, pow-zero, suc-mul}
+use native.Mathlib.Nat.{add-mul, mul-add, mul-assoc, mul-le-mul, mul-le-mul-left, mul-le-mul-right, mul-suc, one-mul, pow-suc, pow-zero, suc-mul}
 use native.Mathlib.Omega.{arith}
 use Rattle.lapjv_walk.specs.Carr.{Carr, carrDence, carrMore, carrRuns, carrStep}
 use Rattle.lapjv_walk.specs.Ccrt.{assign, ccrtDense, Kept, reduceColumns}
@@ -18,15 +18,12 @@ use Rattle.lapjv_walk.specs.Path.{Scan, scanAll, scanDense, scanMore, sc
 use Rattle.lapjv_walk.specs.Reads.{aloneReads, caReads, carrReads, ccrtReads, collectReads, findPathReads, lapjvReads, scanReads, scanRowReads, scanTurnReads, searchReads, searchTurnReads, tryReads}
 use Rattle.lapjv_walk.proofs.Carr.{pass-keeps, step-turn}
 use Rattle.lapjv_walk.proofs.Cases.{pick-ind}
-use Rattle.lapjv_walk.proofs.Loops.{runs-done, runs-more, walk-sum-more, walk-sum-most, walk-sum-none, runs-sum-done, runs-sum-more, walk-ind}
+use Rattle.lapjv_walk.proofs.Loops.{runs-done, runs-more, runs-sum-done, runs-sum-more, walk-ind, walk-sum-more, walk-sum-most, walk-sum-none}
 use Rattle.lapjv_walk.proofs.Search.{turn-lo}
 use Rattle.lapjv_walk.proofs.Whole.{ccrt-left, passes-left}
 
-times-next : (a b : ℕ) → a * (b + 1) ≡ a * b + a
-times-next a b = omega (arith, mul-add a b 1, mul-one a)
-
 row-cubed : (n : ℕ) → n * (n + (n + 1) * n) ≡ n * n * n + (n * n + n * n)
-row-cubed n = omega (arith, mul-add n n ((n + 1) * n), mul-assoc n (n + 1) n, ap (λ (z : ℕ). z * n) (times-next n n), add-mul (n * n) n n)
+row-cubed n = omega (arith, mul-add n n ((n + 1) * n), mul-assoc n (n + 1) n, ap (λ (z : ℕ). z * n) (mul-suc n n), add-mul (n * n) n n)
 
 squared : (n : ℕ) → n ^ 2 ≡ n * n
 squared n = pow-suc n 1 ∙ ap (λ (z : ℕ). z * n) (pow-suc n 0 ∙ ap (λ (z : ℕ). z * n) (pow-zero n) ∙ one-mul n)
@@ -40,6 +37,10 @@ most-small n h =
     let a : n * n ≤ 64 * 64 = mul-le-mul h h in
     let b : n * n * n ≤ 64 * 64 * 64 = mul-le-mul a h in
     omega (arith, cubed n, squared n)
+
+-- (n + 1)n, what a search reads at most, for n up to 64
+pub search-small : (n : ℕ) → n ≤ 64 → (n + 1) * n ≤ 4160
+search-small n h = let a : n + 1 ≤ 65 = omega arith in mul-le-mul a h
 
 -- ---- `ccrt_dense`
 
@@ -82,7 +83,7 @@ module _ (O : Ops) (n : ℕ) (cost : List (O .C)) (y : List ℤ) (v : List (O .C
 
   paid-turn : (m : ℕ) (s : Scan (O .C)) → scanMore s ≡ true → Paid m (scanTurn O n cost y v s) → Paid (suc m) s
   paid-turn m s e p =
-      let q : (n + 1) * scanTurn O n cost y v s .lo ≡ (n + 1) * s .lo + (n + 1) = ap (λ (z : ℕ). (n + 1) * z) (turn-lo O n cost y v s) ∙ times-next (n + 1) (s .lo) in
+      let q : (n + 1) * scanTurn O n cost y v s .lo ≡ (n + 1) * s .lo + (n + 1) = rw (turn-lo O n cost y v s) (omega (arith, mul-suc (n + 1) (s .lo))) in
       record {
         reads = rw (runs-sum-more scanMore (scanTurn O n cost y v) (scanTurnReads O n cost y v) m s e, runs-more scanMore (scanTurn O n cost y v) m s e) (omega (arith, p .reads, q, turn-most s));
         on = rw (runs-more scanMore (scanTurn O n cost y v) m s e) (omega (arith, p .on, turn-lo O n cost y v s));
@@ -169,10 +170,8 @@ module _ (O : Ops) (n : ℕ) (cost : List (O .C)) where
 
   pub ca-small : (m : ℕ) (s : Kept (O .C)) → n ≤ 64 → m ≤ 64 → caReads O n cost m s ≤ 270336
   ca-small m s hn hm =
-      let a : n + 1 ≤ 65 = omega arith in
-      let b : (n + 1) * n ≤ 65 * 64 = mul-le-mul a hn in
-      let c : n + (n + 1) * n ≤ 4224 = omega arith in
-      let d : m * (n + (n + 1) * n) ≤ 64 * 4224 = mul-le-mul hm c in
+      let a : n + (n + 1) * n ≤ 4224 = omega (arith, search-small n hn) in
+      let b : m * (n + (n + 1) * n) ≤ 64 * 4224 = mul-le-mul hm a in
       omega (arith, ca-most m s)
 
   turns-most : (count m : ℕ) (s : Carr (O .C)) → runs (carrMore count) (carrStep O n cost) m s .turn ≤ s .turn + m

@@ -13,9 +13,8 @@ use Rattle.lapjv_walk.specs.Ops.{floats}
 use Rattle.lapjv_walk.specs.Path.{findPathDense, Scan}
 use Rattle.lapjv_walk.specs.Reads.{findPathReads}
 use Rattle.lapjv_walk.proofs.Cases.{taken-pos}
-use Rattle.lapjv_walk.proofs.Most.{path-most}
+use Rattle.lapjv_walk.proofs.Most.{path-most, search-small}
 use Rattle.lapjv_walk.proofs.Route.{FoundOk, search-found}
-use Rattle.lapjv_scan.proofs.Counts.{square-most}
 use Rattle.lapjv_path.proofs.Goes.{route≡}
 use Rattle.lapjv_path.proofs.find_path_in.Statement.{statement}
 use Rattle.lapjv_path.proofs.find_path_in.Tie as tie
@@ -49,7 +48,7 @@ add-reads c =
     let s = c .before .before .before .before .before .before .before .before .before .before .before .before .before .before .before .before .before .before .before .before .before .before .before .before .before .before .before .before .before .before .before .before .before .before .before in
     let a = s .args in
     let p = s .pre in
-    omega (arith, c .before .before .before .before .before .before .before .before .before .before .before .before .before .before .search-path .ensures .1, path-most floats (a .n) (now (a .cost)) (a .start) (now (a .y)) (now (a .v)), square-most (a .n) (p .0 .most), p .0 .most)
+    omega (arith, c .before .before .before .before .before .before .before .before .before .before .before .before .before .before .search-path .ensures .1, path-most floats (a .n) (now (a .cost)) (a .start) (now (a .y)) (now (a .v)), search-small (a .n) (p .0 .most), p .0 .most)
 
 same-length : tie.Need-same-length
 same-length c = search needs
