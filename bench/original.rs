@@ -1,5 +1,5 @@
-//! The original as a library to be timed, built twice from this file by oracle/build.rs: `plain` with its sources as they
-//! are, `comparison` with the float calls turned to the stand-ins.
+//! The original as a library to be timed, built twice from this file by oracle/build.rs, both with document 02's 2.5: `plain` with its
+//! sources else as they are, `comparison` with the float calls turned to the stand-ins.
 
 #[cfg(not(feature = "plain"))]
 #[path = "../oracle/src/stand_ins.rs"]

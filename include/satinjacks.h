@@ -6,8 +6,10 @@
  *
  * No call allocates, keeps a pointer or has state of its own: the tracker is
  * the SatinjacksTracker that the caller holds. Copy, store or send its bytes
- * as you like; calls on different trackers may run at the same time. A frame
- * needs up to 149 KiB of stack, making a tracker up to 94 KiB.
+ * as you like; calls on different trackers may run at the same time. A tracker
+ * that a version before document 02's 2.5 stored may be refused with 1: README,
+ * 'What a host must know', says how to mend it. A frame needs up to 149 KiB of
+ * stack, making a tracker up to 94 KiB.
  *
  * Every pointer is aligned for its type and not null, also that of an empty
  * slice. Where it is followed by a length, the length counts elements, and the
@@ -55,7 +57,7 @@ typedef struct {
 } SatinjacksBox;
 
 typedef struct {
-    float x, y, s, r; /* centre, area, width over height */
+    float x, y, s, r; /* centre, area, width over height plus 1e-6: the last box as measured */
 } SatinjacksListBox;
 
 typedef struct {

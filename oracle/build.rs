@@ -39,11 +39,15 @@ const TOLD: [Substitution; 2] = [
     ("lapjv.rs", "cost[", "read(cost)[", 7),
 ];
 
-/// The deliberate fault: the gap's last box is put back, so that the next replay starts from the newest box.
-const FAULT: Substitution = (
+/// `unfreeze` keeps the new list, the gap's last box included, so that the next replay starts from it (document 02, 2.5).
+/// The feature `restored` leaves the original as it is.
+const KEPT: Substitution = (
     "oc_sort_tracker/kalman_filter.rs",
-    "self.history_obs.pop();",
-    "self.history_obs.pop(); self.history_obs.extend(new_history.last());",
+    "        self.history_obs = saved.history_obs;
+        // Remove the last element (was the first None appended after freeze)
+        self.history_obs.pop();
+",
+    "",
     1,
 );
 
@@ -95,8 +99,8 @@ fn has(feature: &str) -> bool {
 fn substituted(file: &str, original: &str) -> String {
     let floats = FLOATS.iter().filter(|_| !has("PLAIN"));
     let told = TOLD.iter().filter(|_| Path::new("appended").exists());
-    let fault = Some(&FAULT).filter(|_| has("FAULT"));
-    replaced(file, original, floats.chain(told).chain(fault))
+    let kept = Some(&KEPT).filter(|_| !has("RESTORED"));
+    replaced(file, original, floats.chain(told).chain(kept))
 }
 
 fn replaced<'a>(file: &str, original: &str, substitutions: impl Iterator<Item = &'a Substitution>) -> String {

@@ -37,7 +37,7 @@ impl KalmanFilter {
         self.attr_saved.as_ref().map(|s| crate::state::Filter::of(&s.x, &s.p))
     }
 
-    /// The last box still in the list.
+    /// The last box in the list.
     pub(crate) fn list(&self) -> Option<[f32; 4]> {
         let last = self.history_obs.iter().rev().find_map(|b| b.as_ref());
         last.map(|b| [b[0], b[1], b[2], b[3]])

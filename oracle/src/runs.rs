@@ -371,7 +371,7 @@ fn change(r: &mut Random, set: &mut Settings, counts: &mut [usize], tracks: &mut
         5 => set.delta_t = r.pick(&[0, 8, 9]),
         6..=7 => change_word(r, tracks, "track"),
         _ => {
-            let line = r.pick(&["x", "p", "sx", "sp", "dir"]);
+            let line = r.pick(&["x", "p", "sx", "sp", "dir", "list"]);
             change_word(r, tracks, line);
         }
     }

@@ -1,4 +1,5 @@
 //! The whole state of a tracker as plain values, the rules it has to keep, and its text.
+use crate::oc_sort_tracker::convert_bbox_to_z;
 use crate::words::{put_f32, put_f32s, put_whole};
 
 #[derive(Clone, Debug)]
@@ -71,8 +72,17 @@ impl Track {
             && self.since <= self.age
             && self.since <= max_age
             && self.list.is_some() == self.last.is_some()
+            && (cfg!(feature = "restored") || self.list_is_last())
             && !(unseen && self.last.is_some())
             && self.saved.is_some() == (self.last.is_some() && self.since > 0)
+    }
+
+    /// Where both are there, the list box is the last box as measured, number by number; all NaNs are one.
+    fn list_is_last(&self) -> bool {
+        let (Some(list), Some(last)) = (self.list, self.last) else { return true };
+        let measured = convert_bbox_to_z(&last);
+        let same = |i: usize| list[i].to_bits() == measured[i].to_bits() || list[i].is_nan() && measured[i].is_nan();
+        (0..4).all(same)
     }
 
     fn put(&self, out: &mut Vec<u8>) {

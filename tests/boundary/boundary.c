@@ -15,7 +15,8 @@
  * Compared are number, count, every cell of both buffers and the image: an
  * accepted frame leaves the plain form's (all NaNs are one value), a refusal
  * leaves every byte as it was. Past the count an accepted frame and a new
- * tracker have zeros. A refusal that never came is a failure. First, a known
+ * tracker have zeros. A list box that isn't the last box as measured here is
+ * refused with 1. A refusal that never came is a failure. First, a known
  * run's numbers must stand where the header's names say.
  */
 #include "satinjacks.h"
@@ -188,6 +189,33 @@ static int is_clear_past_the_count(const SatinjacksTracker *i)
             if (word(i, in_track(t, k)) != 0)
                 return 0;
     return 1;
+}
+
+/* ---- a state rule, worked out here: the list box is the last box as measured */
+
+static SatinjacksListBox measured(const SatinjacksBox *b)
+{
+    float w = b->x2 - b->x1, h = b->y2 - b->y1;
+    return (SatinjacksListBox){b->x1 + w / 2, b->y1 + h / 2, w * h, w / (h + 0.000001f)};
+}
+
+static int holds_both(const SatinjacksTracker *i, size_t t) { return i->words[t].has_last == 1 && i->words[t].has_list == 1; }
+
+static int is_listed(const SatinjacksTracker *i)
+{
+    for (size_t t = 0; t < live(i); t++) {
+        SatinjacksListBox z = measured(&i->floats[t].last);
+        if (holds_both(i, t) && !same_floats(&z, &i->floats[t].list, 4))
+            return 0;
+    }
+    return 1;
+}
+
+static void mend_lists(SatinjacksTracker *i)
+{
+    for (size_t t = 0; t < live(i); t++)
+        if (holds_both(i, t))
+            i->floats[t].list = measured(&i->floats[t].last);
 }
 
 /* ---- the image as a call gets it: whole, or its lists each in a place of its own */
@@ -504,6 +532,7 @@ static void past_the_count(SatinjacksTracker *i)
             set_word(i, in_track(t, k), (uint32_t)(next() >> 16));
 }
 
+/* Any floats in the tracks; mostly the list boxes follow the last boxes, without which hardly an image would pass. */
 static void wild_floats(SatinjacksTracker *i)
 {
     uint32_t rare = 1 + below(60);
@@ -511,6 +540,8 @@ static void wild_floats(SatinjacksTracker *i)
         for (size_t k = 0; k < CELL; k++)
             if (is_float(in_track(t, k)) && one_in(rare))
                 set_word(i, in_track(t, k), any_float());
+    if (!one_in(8))
+        mend_lists(i);
 }
 
 /* Random bytes, or random tracks whose tags mean something under the head of a run. */
@@ -608,6 +639,7 @@ static void frame(Run *run)
     CHECK(memcmp(boxes + f, boxes0 + 4 * f, 4 * (m - f)) == 0 && memcmp(ids + d, ids0 + 8 * d, 8 * (l - d)) == 0);
     CHECK(memcmp(boxes2 + f, boxes0 + 4 * f, 4 * (m - f)) == 0 && memcmp(ids2 + d, ids0 + 8 * d, 8 * (l - d)) == 0);
 
+    CHECK(r.number == SATINJACKS_UNSOUND_STATE || is_listed(&before));
     counts[r.number]++;
     if (r.number != 0) {
         CHECK(memcmp(&after, &before, sizeof before) == 0);
@@ -615,7 +647,7 @@ static void frame(Run *run)
         return;
     }
     CHECK(same_image(&after, &by.image));
-    CHECK(after.frames == before.frames + 1 && is_clear_past_the_count(&after));
+    CHECK(after.frames == before.frames + 1 && is_clear_past_the_count(&after) && is_listed(&after));
     reporting += r.count > 0;
     with_nan += holds_nan(&after);
     if (kind > 9 && !limit)

@@ -13,7 +13,7 @@ pub struct BoxImage {
     pub score: f32,
 }
 
-/// The measured box that the history's list holds: centre, area, width over height.
+/// The last box in the history's list, which is the track's last box as measured: centre, area, width over height plus 1e-6.
 #[repr(C)]
 #[derive(Clone, Copy, Debug)]
 pub struct ListImage {

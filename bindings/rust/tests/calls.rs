@@ -113,7 +113,9 @@ fn the_image_has_its_names() {
 #[test]
 fn unsound_states() {
     let mut tracker = Tracker::new(0.5).unwrap();
-    tracker.update(&[at(0.0, 0.0, 64.0, 64.0, 0.9)]).unwrap();
+    for _ in 0..2 {
+        tracker.update(&[at(0.0, 0.0, 64.0, 64.0, 0.9)]).unwrap();
+    }
     let spoilt = |spoil: fn(&mut TrackerImage)| {
         let mut image = Box::new(*tracker.image());
         spoil(&mut image);
@@ -125,6 +127,7 @@ fn unsound_states() {
     spoilt(|i| i.count = u64::MAX);
     spoilt(|i| i.id[0] = 1);
     spoilt(|i| i.delta_t = 9);
+    spoilt(|i| i.floats[0].list.x = 33.0);
     // cells past the count mean nothing, and an accepted frame leaves zeros there
     let mut image = Box::new(*tracker.image());
     image.words[1].has_last = 7;

@@ -1,5 +1,5 @@
 -- A track that obeys its own rules obeys them after a frame: predicted, then given a box or a miss. So does a newborn. Assumes nothing.
-use mathlib.Core.Path.{_≡_, refl, sym, _∙_}
+use mathlib.Core.Path.{_≡_, refl, sym}
 use mathlib.Core.Bool.{Bool, true, false, not, _&&_, Bool·beq}
 use mathlib.Core.Option.{Option, none, some}
 use Prim.Native.Nat.{ℕ, zero, suc, _+_, _≤_, _<_}
@@ -7,11 +7,11 @@ use native.Mathlib.Omega.{arith}
 use lib.Dec.{leb, ltb, eqb}
 use borrow.Author.Tests.{leb-true, le-leb, lt-ltb, eqb-false, ne-eqb}
 use Rattle.lapjv_walk.proofs.Cases.{never, and-left, and-right}
-use Rattle.kalman_filter.specs.declared.DetectBox.{DetectBox}
 use Rattle.object.specs.declared.Detection.{Detection}
 use Rattle.strack.specs.declared.Track.{Track}
-use Rattle.strack.specs.Track.{isSeen, birthOf, streakAfter, trackPredict, listAfter, trackBox, trackMiss}
-use Rattle.strack.specs.Rules.{holdsList, ownRules}
+use Rattle.strack.specs.Track.{seenOf, isSeen, listEntry, birthOf, streakAfter, trackPredict, trackBox, trackMiss}
+use Rattle.strack.specs.Rules.{holdsList, sameEntry, ownRules}
+use Rattle.strack.proofs.Rules.{same-entry-self}
 use Rattle.frame.specs.Rounds.{Grant}
 use Rattle.frame.specs.Frame.{give}
 
@@ -21,6 +21,7 @@ pub record Own (t : Track) : Type 0 where
   pub streak : t .streak ≤ t .age
   pub since : t .since ≤ t .age
   pub listed : holdsList (t .list) ≡ isSeen (t .last)
+  pub entry : sameEntry (listEntry (t .last)) (t .list) ≡ true
   pub later : isSeen (t .last) ≡ true → t .since < t .age
   pub frozen : t .frozen ≡ (isSeen (t .last) && ltb 0 (t .since))
 
@@ -36,9 +37,11 @@ own t h =
     let a = leb (t .streak) (t .age) in
     let b = leb (t .since) (t .age) in
     let c = Bool·beq (holdsList (t .list)) (isSeen (t .last)) in
-    let d = not (eqb (t .since) (t .age) && isSeen (t .last)) in
-    let e = Bool·beq (t .frozen) (isSeen (t .last) && ltb 0 (t .since)) in
-    let abcd = and-left (a && b && c && d) e h in
+    let d = sameEntry (listEntry (t .last)) (t .list) in
+    let e = not (eqb (t .since) (t .age) && isSeen (t .last)) in
+    let f = Bool·beq (t .frozen) (isSeen (t .last) && ltb 0 (t .since)) in
+    let abcde = and-left (a && b && c && d && e) f h in
+    let abcd = and-left (a && b && c && d) e abcde in
     let abc = and-left (a && b && c) d abcd in
     let ab = and-left (a && b) c abc in
     let within : t .since ≤ t .age = leb-true (t .since) (t .age) (and-right a b ab) in
@@ -46,8 +49,9 @@ own t h =
       streak = leb-true (t .streak) (t .age) (and-left a b ab);
       since = within;
       listed = beq-true (holdsList (t .list)) (isSeen (t .last)) (and-right (a && b) c abc);
-      later = λ seen. let u : t .since ≡ t .age → ⊥ = eqb-false (t .since) (t .age) (unequal (eqb (t .since) (t .age)) (isSeen (t .last)) seen (and-right (a && b && c) d abcd)) in omega (arith, within, u);
-      frozen = beq-true (t .frozen) (isSeen (t .last) && ltb 0 (t .since)) (and-right (a && b && c && d) e h);
+      entry = and-right (a && b && c) d abcd;
+      later = λ seen. let u : t .since ≡ t .age → ⊥ = eqb-false (t .since) (t .age) (unequal (eqb (t .since) (t .age)) (isSeen (t .last)) seen (and-right (a && b && c && d) e abcde)) in omega (arith, within, u);
+      frozen = beq-true (t .frozen) (isSeen (t .last) && ltb 0 (t .since)) (and-right (a && b && c && d && e) f h);
     }
   where
     unequal : (x y : Bool) → y ≡ true → not (x && y) ≡ true → x ≡ false
@@ -58,10 +62,10 @@ own t h =
 pub own-rules : (t : Track) → Own t → ownRules t ≡ true
 unfolding ownRules
 own-rules t o =
-    rw (le-leb (t .streak) (t .age) (o .streak), le-leb (t .since) (t .age) (o .since), o .listed, o .frozen)
+    rw (le-leb (t .streak) (t .age) (o .streak), le-leb (t .since) (t .age) (o .since), o .listed, o .entry, o .frozen)
     (go (isSeen (t .last)) (eqb (t .since) (t .age)) (ltb 0 (t .since)) (λ seen. let l : t .since < t .age = o .later seen in ne-eqb (t .since) (t .age) (λ q. omega (arith, l, q))))
   where
-    go : (s e b : Bool) → (s ≡ true → e ≡ false) → (Bool·beq s s && not (e && s) && Bool·beq (s && b) (s && b)) ≡ true
+    go : (s e b : Bool) → (s ≡ true → e ≡ false) → (Bool·beq s s && true && not (e && s) && Bool·beq (s && b) (s && b)) ≡ true
     go false false b h = refl
     go false true b h = refl
     go true false false h = refl
@@ -72,7 +76,7 @@ own-rules t o =
 
 pub own-born : (d : Detection) → Own (birthOf d)
 unfolding birthOf
-own-born d = record { streak = omega arith; since = omega arith; listed = refl; later = λ seen. never seen; frozen = refl }
+own-born d = record { streak = omega arith; since = omega arith; listed = refl; entry = refl; later = λ seen. never seen; frozen = refl }
 
 module _ (u : Track) (o : Own u) where
   pub streak-after : streakAfter (u .since) (u .streak) ≤ u .age
@@ -84,12 +88,7 @@ module _ (u : Track) (o : Own u) where
 
   own-boxed : (dt : ℕ) (b : Detection) → Own (trackBox dt b (trackPredict u))
   unfolding trackBox trackPredict
-  own-boxed dt b = record { streak = omega (arith, streak-after); since = omega arith; listed = go _ (u .frozen) (o .frozen); later = λ seen. omega arith; frozen = refl }
-    where
-      -- a frozen track has a list box to keep
-      go : (z : DetectBox) (f : Bool) → f ≡ (isSeen (u .last) && ltb 0 (u .since)) → holdsList (listAfter f (u .list) z) ≡ true
-      go z false e = refl
-      go z true e = o .listed ∙ and-left (isSeen (u .last)) (ltb 0 (u .since)) (sym e)
+  own-boxed dt b = record { streak = omega (arith, streak-after); since = omega arith; listed = refl; entry = same-entry-self (listEntry (seenOf b)); later = λ seen. omega arith; frozen = refl }
 
   own-missed : Own (trackMiss (trackPredict u))
   unfolding trackMiss trackPredict
@@ -97,6 +96,7 @@ module _ (u : Track) (o : Own u) where
     streak = omega (arith, streak-after);
     since = omega (arith, o .since);
     listed = o .listed;
+    entry = o .entry;
     later = λ seen. let l : u .since < u .age = o .later seen in omega (arith, l);
     frozen = go (isSeen (u .last)) (ltb 0 (u .since + 1)) (lt-ltb 0 (u .since + 1) (omega arith));
   }

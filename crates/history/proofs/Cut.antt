@@ -16,7 +16,7 @@ use Rattle.strack.specs.declared.ListBox.the-variants.{Holds}
 use Rattle.strack.specs.declared.Track.{Track}
 use Rattle.object.specs.Object.{cornersOf}
 use Rattle.strack.specs.Boxes.{measureOf}
-use Rattle.strack.specs.Track.{streakAfter, seenOf, isSeen, orBox, filterAfter, listAfter, savedAfter, freezes, headingFrom, headingOf, kPreviousOf, previousOf, birthOf, trackPredict, trackBox, trackMiss, areaHeld}
+use Rattle.strack.specs.Track.{streakAfter, seenOf, isSeen, orBox, filterAfter, savedAfter, freezes, headingFrom, headingOf, kPreviousOf, previousOf, birthOf, trackPredict, trackBox, trackMiss, areaHeld}
 use Rattle.history.specs.Uncut.{Uncut, Side, atBox, savedAt, lastHeld, framesBack, findPreviousBox, kPreviousObs, headingOfUncut, born, predicted, boxed, missed}
 use Rattle.history.specs.Replay.{Line, miss, box, written, replay, cut, savedFilter, isSaved, writtenCut, replayCut}
 use Rattle.history.specs.Sound.{Phase, never, watched, lost, Sound, misses}
@@ -77,12 +77,6 @@ module _ (dt : ℕ) (few : dt ≤ 8) (b : Detection) (w : Uncut) (h : Sound w) w
   unsaved (watched z k l o s e n a) = rw o s
   unsaved (lost n f z k l o s e m a) = rw (o, s)
 
-  list-cut : Phase w → lastHeld (side .historyObs) ≡ listAfter (isSaved (w .saved)) (lastHeld (w .historyObs)) z′
-  unfolding predicted
-  list-cut (never l o s e n a) = rw (o, s)
-  list-cut (watched z k l o s e n a) = rw (o, s)
-  list-cut (lost n f z k l o s e m a) = rw (o, s, e) (sym (held-under n z k))
-
   heading-cut : headingOfUncut dt b (predicted w) ≡ headingOf dt b (trackPredict (cut w))
   unfolding headingOf predicted cut trackPredict
   heading-cut = ap (λ (l : LastBox). headingFrom l b (w .direction)) (previous-cut dt few w)
@@ -97,7 +91,7 @@ module _ (dt : ℕ) (few : dt ≤ 8) (b : Detection) (w : Uncut) (h : Sound w) w
     streak = streakAfter (w .since) (w .streak) + 1;
     since = 0;
     last = seenOf b;
-    list = list-cut (h .phase) i;
+    list = Holds z′;
     direction = heading-cut i;
     kept = kept-box (w .observations) (w .age) b i;
   }

@@ -26,6 +26,7 @@ sound-born b = record {
   since-within = omega arith;
   ages-within = omega arith;
   newest-last = refl;
+  list-last = refl;
   phase = never refl refl refl refl refl refl;
 }
 
@@ -36,11 +37,11 @@ module _ (dt : ℕ) (b : Detection) (w : Uncut) where
   watched-after : Phase w → Phase (boxed dt b (predicted w))
   unfolding boxed predicted
   watched-after (never l o s e n a) =
-      watched z′ (w .historyObs) refl refl (rw (o, s)) (rw (o, s)) refl (omega arith)
+      watched z′ (w .historyObs) refl refl (rw (o, s)) refl refl (omega arith)
   watched-after (watched z h l o s e n a) =
-      watched z′ (w .historyObs) refl refl (rw o s) (rw o) refl (omega arith)
+      watched z′ (w .historyObs) refl refl (rw o s) refl refl (omega arith)
   watched-after (lost n f z h l o s e m a) =
-      watched z h refl refl (rw (o, s)) (rw (o, s)) refl (omega arith)
+      watched z′ (w .historyObs) refl refl (rw (o, s)) refl refl (omega arith)
 
   sound-box : Sound w → Sound (boxed dt b (predicted w))
   unfolding boxed predicted
@@ -49,6 +50,7 @@ module _ (dt : ℕ) (b : Detection) (w : Uncut) where
     since-within = omega arith;
     ages-within = omega (arith, newest-age-more (w .observations) (w .age) b (h .ages-within));
     newest-last = newest-more (w .observations) (w .age) b (h .ages-within);
+    list-last = refl;
     phase = watched-after (h .phase);
   }
 
@@ -57,7 +59,7 @@ module _ (w : Uncut) where
   unfolding missed predicted
   lost-after (never l o s e n a) = never l refl (rw (o, s)) e n (rw a)
   lost-after (watched z h l o s e n a) =
-      lost 0 (predictOf (areaHeld (w .filter))) z h l refl (rw (o, e)) (rw e) (rw n) (omega arith)
+      lost 0 (predictOf (areaHeld (w .filter))) z h l refl (rw o) (rw e) (rw n) (omega arith)
   lost-after (lost n f z h l o s e m a) =
       lost (suc n) f z h l refl (rw (o, s)) (rw e) (rw m (add-one (suc n))) (omega arith)
 
@@ -68,6 +70,7 @@ module _ (w : Uncut) where
     since-within = omega (arith, h .since-within);
     ages-within = omega (arith, h .ages-within);
     newest-last = h .newest-last;
+    list-last = h .list-last;
     phase = lost-after (h .phase);
   }
 

@@ -9,7 +9,7 @@ use Rattle.object.specs.declared.Detection.{Detection}
 use Rattle.strack.specs.declared.Kept.{Kept}
 use Rattle.strack.specs.declared.Track.{Track}
 use Rattle.strack.specs.Track.{keptOf, noFilter, birthOf, trackPredict, trackBox, trackMiss}
-use Rattle.history.specs.Uncut.{Uncut, Saved, Dated, boxAgo, lastHeld, born, predicted, boxed, missed}
+use Rattle.history.specs.Uncut.{Uncut, Dated, boxAgo, lastHeld, born, predicted, boxed, missed}
 
 pub data Line : Type 0 where
   miss : Line
@@ -30,13 +30,13 @@ replay dt b (l ∷ ls) = written dt l (predicted (replay dt b ls))
 abbrev pub keptAt : ℕ → List Dated → List Kept
 keptAt a os = tab (λ k. keptOf (boxAgo os a k)) 8
 
-abbrev pub savedFilter : Option Saved → Filter
+abbrev pub savedFilter : Option Filter → Filter
 savedFilter none = noFilter
-savedFilter (some sv) = sv .filter
+savedFilter (some f) = f
 
-abbrev pub isSaved : Option Saved → Bool
+abbrev pub isSaved : Option Filter → Bool
 isSaved none = false
-isSaved (some sv) = true
+isSaved (some f) = true
 
 -- at rest: as list box the last box in `history_obs`, as kept boxes those at the last 8 ages
 unfoldable pub cut : Uncut → Track

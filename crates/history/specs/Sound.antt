@@ -9,7 +9,7 @@ use Rattle.kalman_filter.specs.declared.Filter.{Filter}
 use Rattle.kalman_filter.specs.declared.DetectBox.{DetectBox}
 use Rattle.strack.specs.declared.LastBox.the-variants.{Unseen}
 use Rattle.strack.specs.declared.ListBox.the-variants.{Empty}
-use Rattle.strack.specs.Track.{isSeen}
+use Rattle.strack.specs.Track.{isSeen, listEntry}
 use Rattle.history.specs.Uncut.{Uncut, newestAge, newestBox, lastHeld}
 
 -- n misses on top of a list
@@ -22,9 +22,9 @@ pub data Phase (w : Uncut) : Type 0 where
   never : w .last ≡ Unseen → w .observed ≡ false → w .saved ≡ none → lastHeld (w .historyObs) ≡ Empty → w .observations ≡ [] → w .since ≡ w .age → Phase w
   -- a box in this frame: the list has a box on top
   watched : (z : DetectBox) (h : List (Option DetectBox)) → isSeen (w .last) ≡ true → w .observed ≡ true → w .saved ≡ none → w .historyObs ≡ some z ∷ h → w .since ≡ 0 → 0 < w .age → Phase w
-  -- the last box some frames ago: as many misses on top of the list, and the list at the first of them saved
+  -- the last box some frames ago: as many misses on top of the list, and the filter at the first of them saved
   lost : (n : ℕ) (f : Filter) (z : DetectBox) (h : List (Option DetectBox)) → isSeen (w .last) ≡ true → w .observed ≡ false
-      → w .saved ≡ some (record { filter = f; historyObs = none ∷ some z ∷ h }) → w .historyObs ≡ misses (suc n) (some z ∷ h) → w .since ≡ suc n → suc n < w .age → Phase w
+      → w .saved ≡ some f → w .historyObs ≡ misses (suc n) (some z ∷ h) → w .since ≡ suc n → suc n < w .age → Phase w
 
 pub record Sound (w : Uncut) : Type 0 where
   pub streak-within : w .streak ≤ w .age
@@ -32,4 +32,6 @@ pub record Sound (w : Uncut) : Type 0 where
   pub ages-within : newestAge (w .observations) ≤ w .age
   -- the box of highest age is the last box
   pub newest-last : newestBox (w .observations) ≡ w .last
+  -- the last box of the list is the last box's entry
+  pub list-last : lastHeld (w .historyObs) ≡ listEntry (w .last)
   pub phase : Phase w

@@ -1,8 +1,8 @@
--- Document 01, items 4 and 5, on the track as the Rust keeps it: `history_obs` and `observations` whole. Lists are newest first.
--- Definitions only.
+-- Document 01, items 4 and 5, and document 02, 2.5, on the track as the Rust keeps it: `history_obs` and `observations` whole.
+-- Lists are newest first. Definitions only.
 use mathlib.Core.Bool.{Bool, true, false}
 use mathlib.Core.Option.{Option, none, some}
-use mathlib.Core.List.{List, [], _∷_, tail}
+use mathlib.Core.List.{List, [], _∷_}
 use Prim.Native.Nat.{ℕ, zero, suc, _+_, _-_}
 use lib.Dec.{leb, eqb}
 use Rattle.kalman_filter.specs.declared.Filter.{Filter}
@@ -68,15 +68,11 @@ framesBack (some z ∷ h) = 1
 
 -- ---- the track
 
--- what a miss after a box saves
-pub record Saved : Type 0 where
-  pub filter : Filter
-  pub historyObs : List (Option DetectBox)
-
 pub record Uncut : Type 0 where
   pub filter : Filter
   pub observed : Bool
-  pub saved : Option Saved
+  -- what a miss after a box saves
+  pub saved : Option Filter
   pub historyObs : List (Option DetectBox)
   pub age : ℕ
   pub streak : ℕ
@@ -128,32 +124,33 @@ kPreviousObs dt w = previousIn dt (w .age) (w .observations)
 -- what the filter side of the track becomes at a box
 pub record Side : Type 0 where
   pub filter : Filter
-  pub saved : Option Saved
-  pub historyObs : List (Option DetectBox)
+  pub saved : Option Filter
 
--- the gap between the last box still in the list and z, replayed; z is then applied once more itself
+-- the gap between the last box of the list and z, replayed; z is then applied once more itself
 abbrev pub overGap : ListBox → ℕ → DetectBox → Filter → Filter
 overGap Empty gap z f = updateOf z f
 overGap (Holds z₁) gap z f = replayOf gap z₁ z f
 
--- Seen in the frame before, or never saved: z joins the list. Else the saved filter and list are restored, the list without its miss, and the gap is replayed.
-abbrev pub atBox : DetectBox → Uncut → Bool → Option Saved → Side
-atBox z w true sv = record { filter = updateOf z (w .filter); saved = sv; historyObs = some z ∷ w .historyObs }
-atBox z w false none = record { filter = updateOf z (w .filter); saved = none; historyObs = some z ∷ w .historyObs }
-atBox z w false (some sv) = record { filter = overGap (lastHeld (w .historyObs)) (framesBack (w .historyObs)) z (sv .filter); saved = none; historyObs = tail (sv .historyObs) }
+-- Seen in the frame before, or never saved: z is applied. Else the saved filter is restored, and the gap replayed.
+abbrev pub atBox : DetectBox → Uncut → Bool → Option Filter → Side
+atBox z w true sv = record { filter = updateOf z (w .filter); saved = sv }
+atBox z w false none = record { filter = updateOf z (w .filter); saved = none }
+atBox z w false (some f) = record { filter = overGap (lastHeld (w .historyObs)) (framesBack (w .historyObs)) z f; saved = none }
 
 -- a box sets the direction of a track that has a last box
 abbrev pub headingOfUncut : ℕ → Detection → Uncut → Direction
 headingOfUncut dt b w = headingFrom (pick (isSeen (w .last)) (findPreviousBox dt w) Unseen) b (w .direction)
 
+-- the box joins the list, which stays as it grew, also where the box ends a gap (document 02, 2.5)
 unfoldable pub boxed : ℕ → Detection → Uncut → Uncut
 boxed dt b w =
-    let side = atBox (measureOf (cornersOf b)) w (w .observed) (w .saved) in
+    let z = measureOf (cornersOf b) in
+    let side = atBox z w (w .observed) (w .saved) in
     record {
       filter = side .filter;
       observed = true;
       saved = side .saved;
-      historyObs = side .historyObs;
+      historyObs = some z ∷ w .historyObs;
       age = w .age;
       streak = w .streak + 1;
       since = 0;
@@ -162,9 +159,9 @@ boxed dt b w =
       direction = headingOfUncut dt b w;
     }
 
--- a miss after a box freezes filter and list, the miss included
-abbrev pub savedAt : Bool → Uncut → Option Saved
-savedAt true w = some (record { filter = w .filter; historyObs = none ∷ w .historyObs })
+-- a miss after a box freezes the filter
+abbrev pub savedAt : Bool → Uncut → Option Filter
+savedAt true w = some (w .filter)
 savedAt false w = w .saved
 
 unfoldable pub missed : Uncut → Uncut

@@ -61,7 +61,7 @@ pub fn is_sound_at(s: Settings, frames: u32, issued: u64, from: u64, e: Tracked)
     if s.max_age < t.since {
         return false;
     }
-    strack::is_sound(t)
+    own_rules::is_sound(t)
 }
 
 // The rules of the live tracks.

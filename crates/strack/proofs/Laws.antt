@@ -13,12 +13,13 @@ use Rattle.strack.specs.declared.LastBox.the-variants.{Unseen, Seen}
 use Rattle.strack.specs.declared.Kept.{Kept}
 use Rattle.strack.specs.declared.Track.{Track}
 use Rattle.strack.specs.declared.ListBox.{ListBox}
+use Rattle.strack.specs.declared.ListBox.the-variants.{Holds}
 use Rattle.strack.specs.declared.Direction.{Direction}
 use Rattle.object.specs.declared.Detection.{Detection}
 use Rattle.object.specs.Object.{cornersOf}
 use Rattle.kalman_filter.specs.declared.DetectBox.{DetectBox}
 use Rattle.strack.specs.Boxes.{measureOf}
-use Rattle.strack.specs.Track.{noFilter, seenOf, isSeen, keptOf, shifted, streakAfter, orBox, oldestOf, previousOf, kPreviousOf, headingOf, filterAfter, listAfter, trackBox, savedAfter, freezes, trackMiss}
+use Rattle.strack.specs.Track.{noFilter, seenOf, isSeen, keptOf, shifted, streakAfter, orBox, oldestOf, previousOf, kPreviousOf, headingOf, filterAfter, trackBox, savedAfter, freezes, trackMiss}
 
 -- ---- the oldest of the last ages
 
@@ -75,7 +76,7 @@ shifted-is d l k e = ap (λ (m : List Kept). keptOf l ∷ m) (take-tab d 7 k (om
 -- ---- a box
 
 -- a track whose parts are those of the rule
-pub box-is : (dt : ℕ) (b : Detection) (t : Track) (z : DetectBox) (f none : Filter) (l : LastBox) (list : ListBox) (d : Direction) (k : List Kept) → z ≡ measureOf (cornersOf b) → f ≡ filterAfter (t .frozen) t z → none ≡ noFilter → l ≡ seenOf b → list ≡ listAfter (t .frozen) (t .list) z → d ≡ headingOf dt b t → k ≡ shifted l (t .kept) → _≡_ {A = Track} (record { filter = f; saved = none; frozen = false; age = t .age; streak = t .streak + 1; since = 0; last = l; list = list; direction = d; kept = k }) (trackBox dt b t)
+pub box-is : (dt : ℕ) (b : Detection) (t : Track) (z : DetectBox) (f none : Filter) (l : LastBox) (list : ListBox) (d : Direction) (k : List Kept) → z ≡ measureOf (cornersOf b) → f ≡ filterAfter (t .frozen) t z → none ≡ noFilter → l ≡ seenOf b → list ≡ Holds z → d ≡ headingOf dt b t → k ≡ shifted l (t .kept) → _≡_ {A = Track} (record { filter = f; saved = none; frozen = false; age = t .age; streak = t .streak + 1; since = 0; last = l; list = list; direction = d; kept = k }) (trackBox dt b t)
 unfolding trackBox
 box-is dt b t z f none l list d k ez ef en el es ed ek = rw (ek, es, ef, ed, en, el, ez)
 

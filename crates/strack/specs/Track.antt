@@ -43,6 +43,11 @@ abbrev pub isSeen : LastBox → Bool
 isSeen Unseen = false
 isSeen (Seen x1 y1 x2 y2 score) = true
 
+-- the last box's entry in `history_obs`
+abbrev pub listEntry : LastBox → ListBox
+listEntry Unseen = Empty
+listEntry (Seen x1 y1 x2 y2 score) = Holds (measureOf (record { x1 = x1; y1 = y1; x2 = x2; y2 = y2 }))
+
 -- the box at the newest age before the others; the oldest falls off
 abbrev pub shifted : LastBox → List Kept → List Kept
 shifted l kept = keptOf l ∷ take 7 kept
@@ -128,15 +133,12 @@ abbrev pub regained : ListBox → ℕ → DetectBox → Filter → Filter
 regained Empty gap z f = updateOf z f
 regained (Holds z₁) gap z f = replayOf gap z₁ z f
 
--- Not frozen: the box is applied and put into the list. Frozen: the saved filter is restored, the gap replayed, and the list box stays.
+-- Not frozen: the box is applied. Frozen: the saved filter is restored, and the gap replayed from the list box.
 abbrev pub filterAfter : Bool → Track → DetectBox → Filter
 filterAfter false t z = updateOf z (t .filter)
 filterAfter true t z = regained (t .list) (t .since) z (t .saved)
 
-abbrev pub listAfter : Bool → ListBox → DetectBox → ListBox
-listAfter false l z = Holds z
-listAfter true l z = l
-
+-- the box goes into the list, also where it ends a gap (document 02, 2.5)
 unfoldable pub trackBox : ℕ → Detection → Track → Track
 trackBox dt b t =
     let z = measureOf (cornersOf b) in
@@ -148,7 +150,7 @@ trackBox dt b t =
       streak = t .streak + 1;
       since = 0;
       last = seenOf b;
-      list = listAfter (t .frozen) (t .list) z;
+      list = Holds z;
       direction = headingOf dt b t;
       kept = shifted (seenOf b) (t .kept);
     }

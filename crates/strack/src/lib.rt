@@ -3,8 +3,7 @@ ghost use mathlib.Core.Path.{_≡_};
 ghost use Prim.Native.Nat.{_+_, _≤_, _<_};
 ghost use Rattle.object.specs.Object.{cornersOf};
 ghost use Rattle.strack.specs.Boxes.{measureOf, boxOf, directionOf};
-ghost use Rattle.strack.specs.Track.{noFilter, seenOf, isSeen, shifted, birthOf, areaHeld, streakAfter, trackPredict, stateBox, orBox, oldestOf, previousOf, kPreviousOf, headingFrom, headingOf, regained, filterAfter, listAfter, trackBox, savedAfter, freezes, trackMiss};
-ghost use Rattle.strack.specs.Rules.{holdsList, ownRules};
+ghost use Rattle.strack.specs.Track.{noFilter, seenOf, isSeen, shifted, birthOf, areaHeld, streakAfter, trackPredict, stateBox, orBox, oldestOf, previousOf, kPreviousOf, headingFrom, headingOf, regained, filterAfter, trackBox, savedAfter, freezes, trackMiss};
 use kalman_filter::DetectBox;
 use kalman_filter::Filter;
 use object::Corners;
@@ -16,7 +15,7 @@ pub enum LastBox {
     Seen(f32, f32, f32, f32, f32),
 }
 
-// The last box still in `history_obs`.
+// The last box in `history_obs`, as measured.
 pub enum ListBox {
     Empty,
     Holds(DetectBox),
@@ -114,7 +113,8 @@ pub fn speed_direction(a: Corners, b: Corners) -> Direction
     Direction::Known(dy / norm, dx / norm)
 }
 
-fn is_seen(l: LastBox) -> bool
+// Whether a box has come since birth.
+pub fn is_seen(l: LastBox) -> bool
     ensures { λ r. ⌜ r ≡ isSeen l ⌝ }
 {
     match l {
@@ -304,13 +304,6 @@ fn regain(saved: Filter, list: ListBox, z: DetectBox, gap: u32) -> Filter
     }
 }
 
-// The box that a gap is replayed from: the last still in the list, which need not be the newest.
-fn replayed_from(t: Track) -> ListBox
-    ensures { λ r. ⌜ r ≡ t .list ⌝ }
-{
-    t.list
-}
-
 // The filter after the box z.
 fn filter_after(t: Track, z: DetectBox) -> Filter
     requires { ⌜ t .since ≤ 256 ⌝ }
@@ -318,18 +311,11 @@ fn filter_after(t: Track, z: DetectBox) -> Filter
 {
     if t.frozen {
         let saved = t.saved;
-        let list = replayed_from(t);
+        let list = t.list;
         return regain(saved, list, z, t.since);
     }
     let filter = t.filter;
     kalman_filter::update(filter, z)
-}
-
-// The box that ends a gap isn't put into the restored list.
-fn list_after(frozen: bool, list: ListBox, z: DetectBox) -> ListBox
-    ensures { λ r. ⌜ r ≡ listAfter frozen list z ⌝ }
-{
-    if frozen { list } else { ListBox::Holds(z) }
 }
 
 // The track after the box d.
@@ -341,8 +327,7 @@ pub fn update(t: Track, delta_t: u32, d: Detection) -> Track
     let direction = heading(t, delta_t, d);
     let filter = filter_after(t, z);
     let saved = no_filter();
-    let before = t.list;
-    let list = list_after(t.frozen, before, z);
+    let list = ListBox::Holds(z);
     let last = seen(d);
     let kept = t.kept;
     let kept = shifted(last, kept);
@@ -391,42 +376,4 @@ pub fn update_none(t: Track) -> Track
         kept,
         ..t
     }
-}
-
-// ---- the state rules of one track
-
-fn holds_list(l: ListBox) -> bool
-    ensures { λ r. ⌜ r ≡ holdsList l ⌝ }
-{
-    match l {
-        ListBox::Empty => false,
-        ListBox::Holds(_) => true,
-    }
-}
-
-// Whether the state rules that speak of one track alone hold.
-pub fn is_sound(t: Track) -> bool
-    ensures { λ r. ⌜ r ≡ ownRules t ⌝ }
-{
-    let last = t.last;
-    let list = t.list;
-    let seen = is_seen(last);
-    let held = holds_list(list);
-    if t.age < t.streak {
-        return false;
-    }
-    if t.age < t.since {
-        return false;
-    }
-    if held != seen {
-        return false;
-    }
-    if seen {
-        // no box has come since birth
-        if t.since == t.age {
-            return false;
-        }
-        return t.frozen == (0 < t.since);
-    }
-    !t.frozen
 }

@@ -56,7 +56,7 @@ pub fn class_of(b: u32) -> Class
 }
 
 // The bits of x; a NaN's are not told, so it gets those of one NaN.
-fn bits_of(x: f32) -> u32
+pub fn bits_of(x: f32) -> u32
     ensures { λ r. ⌜ r ≡ toBits binary32 x ⌝ }
 {
     if ieee::is_nan(x) {
