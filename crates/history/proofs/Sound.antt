@@ -1,5 +1,6 @@
 -- Every replay is sound: each step keeps it. Assumes nothing.
-use mathlib.Core.Path.{refl}
+use mathlib.Core.Path.{_≡_, refl}
+use mathlib.Core.Option.{some}
 use mathlib.Core.List.{List, [], _∷_}
 use Prim.Native.Nat.{ℕ, zero, suc, _≤_}
 use native.Mathlib.Omega.{arith}
@@ -34,14 +35,19 @@ module _ (dt : ℕ) (b : Detection) (w : Uncut) where
   abbrev z′ : DetectBox
   z′ = measureOf (cornersOf b)
 
+  -- whatever came before, also where the box ends a gap
+  box-on-top : boxed dt b (predicted w) .historyObs ≡ some z′ ∷ w .historyObs
+  unfolding boxed predicted
+  box-on-top = refl
+
   watched-after : Phase w → Phase (boxed dt b (predicted w))
   unfolding boxed predicted
   watched-after (never l o s e n a) =
-      watched z′ (w .historyObs) refl refl (rw (o, s)) refl refl (omega arith)
+      watched z′ (w .historyObs) refl refl (rw (o, s)) box-on-top refl (omega arith)
   watched-after (watched z h l o s e n a) =
-      watched z′ (w .historyObs) refl refl (rw o s) refl refl (omega arith)
+      watched z′ (w .historyObs) refl refl (rw o s) box-on-top refl (omega arith)
   watched-after (lost n f z h l o s e m a) =
-      watched z′ (w .historyObs) refl refl (rw (o, s)) refl refl (omega arith)
+      watched z′ (w .historyObs) refl refl (rw (o, s)) box-on-top refl (omega arith)
 
   sound-box : Sound w → Sound (boxed dt b (predicted w))
   unfolding boxed predicted
