@@ -41,15 +41,10 @@ const TOLD: [Substitution; 2] = [
 
 /// `unfreeze` keeps the new list, the gap's last box included, so that the next replay starts from it (document 02, 2.5).
 /// The feature `restored` leaves the original as it is.
-const KEPT: Substitution = (
-    "oc_sort_tracker/kalman_filter.rs",
-    "        self.history_obs = saved.history_obs;
-        // Remove the last element (was the first None appended after freeze)
-        self.history_obs.pop();
-",
-    "",
-    1,
-);
+const KEPT: [Substitution; 2] = [
+    ("oc_sort_tracker/kalman_filter.rs", "self.history_obs = saved.history_obs;", "", 1),
+    ("oc_sort_tracker/kalman_filter.rs", "self.history_obs.pop();", "", 1),
+];
 
 /// `lapjv.rs` over signed 64-bit numbers (document 02, 2.3), beside the one that the tracker uses.
 const WHOLE: [Substitution; 3] = [
@@ -99,7 +94,7 @@ fn has(feature: &str) -> bool {
 fn substituted(file: &str, original: &str) -> String {
     let floats = FLOATS.iter().filter(|_| !has("PLAIN"));
     let told = TOLD.iter().filter(|_| Path::new("appended").exists());
-    let kept = Some(&KEPT).filter(|_| !has("RESTORED"));
+    let kept = KEPT.iter().filter(|_| !has("RESTORED"));
     replaced(file, original, floats.chain(told).chain(kept))
 }
 
