@@ -1,4 +1,4 @@
-//! The original as a library to be timed, built twice from this file by oracle/build.rs, both with document 02's 2.5: `plain` with its
+//! The original as a library to be timed, built twice from this file by oracle/build.rs, both with document 02's 2.5 and 2.8: `plain` with its
 //! sources else as they are, `comparison` with the float calls turned to the stand-ins.
 
 #[cfg(not(feature = "plain"))]

@@ -124,7 +124,7 @@ typedef struct {
     uint32_t max_age;    /* 0 to 255 */
     uint32_t min_hits;   /* 0 to 255 */
     uint32_t delta_t;    /* 0 to 8 */
-    uint32_t use_byte;   /* 0 or 1 */
+    uint32_t use_byte;   /* 0 or 1: whether scores above 0.1, not above det_thresh, are offered to tracks left */
 } SatinjacksSettings;
 
 typedef struct {

@@ -2,6 +2,7 @@
 //! and `oc_sort_tracker/`, or a checkout with it as `src/`), makes the listed substitutions, appends the
 //! accessors, and writes the result and its whole difference to the originals into OUT_DIR.
 use std::fmt::Write;
+use std::ops::Range;
 use std::path::{Path, PathBuf};
 use std::{env, fs};
 
@@ -45,6 +46,11 @@ const KEPT: [Substitution; 2] = [
     ("oc_sort_tracker/kalman_filter.rs", "self.history_obs = saved.history_obs;", "", 1),
     ("oc_sort_tracker/kalman_filter.rs", "self.history_obs.pop();", "", 1),
 ];
+
+/// How two blocks of `update` begin that change places: the round on last boxes runs before the one on spares (document 02, 2.8).
+/// The feature `spares_first` leaves them as they are.
+const EXCHANGED: (&str, [&str; 2]) =
+    ("oc_sort_tracker/oc_sort_tracker.rs", ["if self.use_byte", "if !unmatched_dets.is_empty()"]);
 
 /// `lapjv.rs` over signed 64-bit numbers (document 02, 2.3), beside the one that the tracker uses.
 const WHOLE: [Substitution; 3] = [
@@ -95,7 +101,30 @@ fn substituted(file: &str, original: &str) -> String {
     let floats = FLOATS.iter().filter(|_| !has("PLAIN"));
     let told = TOLD.iter().filter(|_| Path::new("appended").exists());
     let kept = KEPT.iter().filter(|_| !has("RESTORED"));
-    replaced(file, original, floats.chain(told).chain(kept))
+    let text = replaced(file, original, floats.chain(told).chain(kept));
+    if file == EXCHANGED.0 && !has("SPARES_FIRST") {
+        exchanged(&text, EXCHANGED.1)
+    } else {
+        text
+    }
+}
+
+/// The text with the two blocks that begin so in each other's place.
+fn exchanged(text: &str, beginnings: [&str; 2]) -> String {
+    let [first, second] = beginnings.map(|beginning| block(text, beginning));
+    assert!(first.end <= second.start, "the blocks to exchange stand in another order");
+    let between = &text[first.end..second.start];
+    [&text[..first.start], &text[second.clone()], between, &text[first], &text[second.end..]].concat()
+}
+
+/// The one block that begins so, to the brace that closes it, in the same column.
+fn block(text: &str, beginning: &str) -> Range<usize> {
+    assert_eq!(text.matches(beginning).count(), 1, "{beginning}");
+    let start = text.find(beginning).unwrap();
+    let indent = &text[text[..start].rfind('\n').unwrap()..start];
+    let close = format!("{indent}}}\n");
+    let length = text[start..].find(&close).unwrap() + close.len() - 1;
+    start..start + length
 }
 
 fn replaced<'a>(file: &str, original: &str, substitutions: impl Iterator<Item = &'a Substitution>) -> String {

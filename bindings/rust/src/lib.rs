@@ -47,7 +47,8 @@ pub struct Track {
 }
 
 /// The tracker's settings. `det_thresh` must not be NaN, `iou_threshold` and `inertia` are 0 to 1, `max_age` and
-/// `min_hits` 0 to 255, `delta_t` 0 to 8.
+/// `min_hits` 0 to 255, `delta_t` 0 to 8. With `use_byte`, objects of a score above 0.1, not above `det_thresh`, are
+/// offered to the tracks that no other object got.
 #[derive(Clone, Copy, Debug, PartialEq)]
 pub struct Settings {
     pub det_thresh: f32,

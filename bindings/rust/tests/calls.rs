@@ -42,6 +42,18 @@ fn width_zero_breaks_the_track() {
     assert_eq!((tracker.count(), tracker.issued()), (0, 1));
 }
 
+/// Document 02, 2.8: a first-class object by the last box wins a track over a spare by the predicted one.
+#[test]
+fn last_boxes_before_spares() {
+    let mut tracker = Tracker::with_settings(Settings { use_byte: true, ..DEFAULTS }).unwrap();
+    for x in [0.0, 32.0] {
+        assert_eq!(tracker.update(&[at(x, 0.0, 64.0, 64.0, 0.9)]).unwrap().len(), 1);
+    }
+    let tracks = tracker.update(&[at(16.0, 0.0, 64.0, 64.0, 0.9), at(64.0, 0.0, 64.0, 64.0, 0.25)]).unwrap();
+    assert_eq!(tracks, [Track { id: 1, x: 16.0, y: 0.0, width: 64.0, height: 64.0 }]);
+    assert_eq!(tracker.issued(), 1);
+}
+
 #[test]
 fn defaults_are_the_same_both_ways() {
     let (a, b) = (Tracker::new(0.5).unwrap(), Tracker::with_settings(DEFAULTS).unwrap());

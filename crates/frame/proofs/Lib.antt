@@ -6,3 +6,4 @@ pub mod StaysSound
 pub mod Promises
 pub mod Contract
 pub mod Seats
+pub mod OpenSlots

@@ -3,17 +3,17 @@ use mathlib.Core.Path.{_≡_, refl, sym, ap, subst, _∙_}
 use mathlib.Core.Option.{Option, none, some}
 use mathlib.Core.List.{List, [], _∷_, map}
 use mathlib.Core.Logic.{_≢_}
-use Prim.Native.Nat.{ℕ, zero, suc, _+_, _≤_, _<_}
+use Prim.Native.Nat.{ℕ, _+_, _≤_, _<_}
 use native.Mathlib.Omega.{arith}
 use lib.IntN.{ℤ, pos, negsuc}
 use lib.ListN.{length, set, length-set, length-map}
 use lib.Seq.{getD-set-other, map-set-same}
-use Rattle.lists.specs.Lists.{pick, sumOf, All}
-use Rattle.lists.proofs.All.{sum-set}
+use Rattle.lists.specs.Lists.{sumOf, All}
+use Rattle.lists.proofs.All.{all-set, sum-set}
 use Rattle.object.specs.declared.Corners.{Corners}
 use Rattle.frame.specs.declared.Settings.{Settings}
-use Rattle.frame.specs.Objects.{Obj, firstClass, spares}
-use Rattle.frame.specs.Rounds.{View, Grant, Slot, emptySlot, firstMarks, firstRound, laterMarks, laterRound, rounds, noSlot, slotAt, grantTo, seat, leftBy}
+use Rattle.frame.specs.Objects.{Obj, firstClass}
+use Rattle.frame.specs.Rounds.{View, Grant, Slot, emptySlot, firstMarks, firstRound, laterMarks, laterRound, byteObjects, lastRound, rounds, noSlot, slotAt, grantTo, seat, leftBy}
 
 -- t is named by none of the marks
 abbrev pub Unnamed : ℕ → List ℤ → Type 0
@@ -70,8 +70,8 @@ pub rounds-length : (s : Settings) (vs : List View) (os : List Obj) → length (
 unfolding rounds
 rounds-length s vs os =
     let w₀ = firstRound s vs (firstClass s os) in
-    let w₁ = laterRound 1 (λ (v : View). v .box) s (w₀ .slots) (pick (s .«use_byte») (spares s os) []) in
-    later-length 2 (λ (v : View). v .last) s (w₁ .slots) (w₀ .left) ∙ later-length 1 (λ (v : View). v .box) s (w₀ .slots) (pick (s .«use_byte») (spares s os) []) ∙ first-length s vs (firstClass s os)
+    let w₁ = lastRound s (w₀ .slots) (w₀ .left) in
+    later-length 1 (λ (v : View). v .box) s (w₁ .slots) (byteObjects s os) ∙ later-length 2 (λ (v : View). v .last) s (w₀ .slots) (w₀ .left) ∙ first-length s vs (firstClass s os)
 
 -- ---- each grant passed the test of its round
 
@@ -83,18 +83,13 @@ module _ (ok : ℕ → Obj → View → Type 0) where
   abbrev pub Fairly : Slot → Type 0
   Fairly a = Passed (a .view) (a .got)
 
-  set-all : (ss : List Slot) (t : ℕ) (a : Slot) → All Fairly ss → Fairly a → All Fairly (set ss t a)
-  set-all [] t a h f = tt
-  set-all (x ∷ ss) zero a h f = (f, h .1)
-  set-all (x ∷ ss) (suc t) a h f = (h .0, set-all ss t a (h .1) f)
-
   pub seat-fairly : (k : ℕ) (ms : List ℤ) (os : List Obj) (ss : List Slot) → Seats (ok k) ms os ss → All Fairly ss → All Fairly (seat k ms os ss)
   seat-fairly k [] os ss h f = f
   seat-fairly k (m ∷ ms) [] ss h f = f
   seat-fairly k (negsuc n ∷ ms) (o ∷ os) ss h f = seat-fairly k ms os ss h f
   seat-fairly k (pos t ∷ ms) (o ∷ os) ss h f =
       let a : Slot = record { view = slotAt ss t .view; got = some (record { round = k; obj = o }) } in
-      seat-fairly k ms os (set ss t a) (seats-set (ok k) ms os ss t a (h .3) (h .4)) (set-all ss t a f (h .2))
+      seat-fairly k ms os (set ss t a) (seats-set (ok k) ms os ss t a (h .3) (h .4)) (all-set Fairly ss t a f (h .2))
 
 -- ---- any weight on objects is conserved
 
@@ -139,16 +134,11 @@ module _ (P : Obj → Type 0) where
   abbrev pub GotSlot : Slot → Type 0
   GotSlot a = Got (a .got)
 
-  set-got : (ss : List Slot) (t : ℕ) (a : Slot) → All GotSlot ss → GotSlot a → All GotSlot (set ss t a)
-  set-got [] t a h f = tt
-  set-got (x ∷ ss) zero a h f = (f, h .1)
-  set-got (x ∷ ss) (suc t) a h f = (h .0, set-got ss t a (h .1) f)
-
   pub seat-from : (k : ℕ) (ms : List ℤ) (os : List Obj) (ss : List Slot) → All P os → All GotSlot ss → All GotSlot (seat k ms os ss)
   seat-from k [] os ss p h = h
   seat-from k (m ∷ ms) [] ss p h = h
   seat-from k (negsuc n ∷ ms) (o ∷ os) ss p h = seat-from k ms os ss (p .1) h
-  seat-from k (pos t ∷ ms) (o ∷ os) ss p h = seat-from k ms os (set ss t _) (p .1) (set-got ss t _ h (p .0))
+  seat-from k (pos t ∷ ms) (o ∷ os) ss p h = seat-from k ms os (set ss t _) (p .1) (all-set GotSlot ss t _ h (p .0))
 
   pub left-from : (ms : List ℤ) (os : List Obj) → All P os → All P (leftBy ms os)
   left-from [] os p = p

@@ -1,4 +1,4 @@
--- Document 01, item 6: the rounds that pair objects with tracks. A slot is a track's view and what it was granted. Definitions only.
+-- Document 01, item 6, in the order of document 02, 2.8: the rounds that pair objects with tracks. A slot is a track's view and what it was granted. Definitions only.
 use mathlib.Core.Option.{Option, none, some}
 use mathlib.Core.List.{List, [], _∷_, map}
 use Prim.Native.Nat.{ℕ, suc}
@@ -23,7 +23,7 @@ pub record View : Type 0 where
   pub last : Corners
   pub previous : Detection
 
--- an object granted to a track, with the round that paired them: 0 predicted boxes, 1 spares, 2 last boxes
+-- an object granted to a track, with the round that paired them: 0 predicted boxes, 1 spares, 2 last boxes, which says what it was compared with and not when
 pub record Grant : Type 0 where
   pub round : ℕ
   pub obj : Obj
@@ -121,12 +121,24 @@ laterMarks target s ss os =
 unfoldable pub laterRound : ℕ → (View → Corners) → Settings → List Slot → List Obj → Work
 laterRound k target s ss os = record { slots = seat k (laterMarks target s ss os) os ss; left = leftBy (laterMarks target s ss os) os }
 
--- predicted boxes; spares if `use_byte`; last boxes
+-- the spares, where `use_byte` lets them in
+abbrev pub byteObjects : Settings → List Obj → List Obj
+byteObjects s os = pick (s .«use_byte») (spares s os) []
+
+-- spares by predicted boxes
+abbrev pub spareRound : Settings → List Slot → List Obj → Work
+spareRound s ss os = laterRound 1 (λ (v : View). v .box) s ss os
+
+-- first-class objects by last boxes
+abbrev pub lastRound : Settings → List Slot → List Obj → Work
+lastRound s ss os = laterRound 2 (λ (v : View). v .last) s ss os
+
+-- Document 02, 2.8: predicted boxes; last boxes; spares if `use_byte`. No spare is born: what is left is what the first two leave.
 unfoldable pub rounds : Settings → List View → List Obj → Work
 rounds s vs os =
     let first = firstRound s vs (firstClass s os) in
-    let byte = laterRound 1 (λ (v : View). v .box) s (first .slots) (pick (s .«use_byte») (spares s os) []) in
-    laterRound 2 (λ (v : View). v .last) s (byte .slots) (first .left)
+    let last = lastRound s (first .slots) (first .left) in
+    record { slots = spareRound s (last .slots) (byteObjects s os) .slots; left = last .left }
 
 -- ---- what a slot was granted, without its place and round: a box, or none
 abbrev pub keptOf : Option Grant → Kept

@@ -4,7 +4,7 @@ use mathlib.Core.Bool.{Bool, true, false}
 use mathlib.Core.Option.{Option, none, some}
 use mathlib.Core.List.{List, [], _∷_, _++_, map, append-nil}
 use Prim.Native.Nat.{ℕ, zero, suc, _+_, _-_, _*_, _≤_, _<_}
-use native.Mathlib.Nat.{add-zero, zero-add, not-suc-le-zero, le-of-suc-le-suc}
+use native.Mathlib.Nat.{add-zero, zero-add}
 use native.Mathlib.Numerals.{add-one}
 use native.Mathlib.Omega.{arith}
 use lib.Ieee.{Float}
@@ -77,11 +77,6 @@ all-below n m h (j ∷ js) a = (omega (arith, a .0), all-below n m h js (a .1))
 pub places-below : (js : List ℕ) (m : ℕ) → 0 < m → All (λ j. j < m) js → All (λ j. j < m) (placesOf js .at)
 unfolding placesOf
 places-below js m h a = all-append (λ j. j < m) js (replicate (64 - length js) 0) a (all-zero m (64 - length js) h)
-
-pub all-at : {A : Type 0} (P : A → Type 0) (xs : List A) (d : A) → All P xs → (i : ℕ) → i < length xs → P (getD xs i d)
-all-at P [] d a i h = absurd (not-suc-le-zero h)
-all-at P (x ∷ xs) d a zero h = a .0
-all-at P (x ∷ xs) d a (suc i) h = all-at P xs d (a .1) i (le-of-suc-le-suc h)
 
 pub places-at : (js : List ℕ) (t : ℕ) → getD (placesOf js .at) t 0 ≡ getD js t 0
 unfolding placesOf

@@ -12,7 +12,7 @@ use lib.ListN.{length, getD, take, set, replicate, length-map, length-set, List�
 use lib.Seq.{take-suc, length-take-le, set-append-left}
 use Rattle.lists.specs.Lists.{tab, All}
 use Rattle.lists.proofs.Tab.{length-tab}
-use Rattle.lists.proofs.All.{all-append}
+use Rattle.lists.proofs.All.{all-at, all-append}
 use Rattle.object.specs.declared.Detection.{Detection}
 use Rattle.strack.specs.declared.Kept.{Kept}
 use Rattle.strack.specs.Track.{seenOf}
@@ -22,7 +22,7 @@ use Rattle.frame.specs.Objects.{Obj}
 use Rattle.frame.specs.Rounds.{Slot, slotAt, grantTo, seat, placeOf, keptOf, grantOf}
 use Rattle.frame.proofs.Seats.{granted-length}
 use Rattle.grants.specs.Grants.{grantsOf, granted, seated, placesOf, Names}
-use Rattle.grants.proofs.Opening.{all-at, places-at}
+use Rattle.grants.proofs.Opening.{places-at}
 
 -- ---- the loop over the marks
 

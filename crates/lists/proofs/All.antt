@@ -23,6 +23,16 @@ pub all-any : {A : Type 0} {P : A → Type 0} → ((x : A) → P x) → (xs : Li
 all-any h [] = tt
 all-any h (x ∷ xs) = (h x, all-any h xs)
 
+pub all-at : {A : Type 0} (P : A → Type 0) (xs : List A) (d : A) → All P xs → (i : ℕ) → i < length xs → P (getD xs i d)
+all-at P [] d a i h = absurd (not-suc-le-zero h)
+all-at P (x ∷ xs) d a zero h = a .0
+all-at P (x ∷ xs) d a (suc i) h = all-at P xs d (a .1) i (le-of-suc-le-suc h)
+
+pub all-set : {A : Type 0} (P : A → Type 0) (xs : List A) (i : ℕ) (x : A) → All P xs → P x → All P (set xs i x)
+all-set P [] i x a p = tt
+all-set P (y ∷ xs) zero x a p = (p, a .1)
+all-set P (y ∷ xs) (suc i) x a p = (a .0, all-set P xs i x (a .1) p)
+
 pub all-mem : {A : Type 0} (P : A → Type 0) (xs : List A) → All P xs → (x : A) → List·Memᴰ x xs → P x
 all-mem P [] a x m = absurd (List·Memᴰ·not-nil m)
 all-mem P (y ∷ xs) a x m = ⊎-elim (λ e. subst P (sym e) (a .0)) (λ r. all-mem P xs (a .1) x r) (List·Memᴰ·cases-cons m)

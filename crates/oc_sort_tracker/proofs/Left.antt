@@ -4,10 +4,9 @@ use Prim.Native.Nat.{_+_, _≤_}
 use native.Mathlib.Omega.{arith}
 use lib.IntN.{ℤ, pos, negsuc}
 use lib.ListN.{length}
-use Rattle.lists.specs.Lists.{pick}
 use Rattle.lists.proofs.Keep.{keep-short}
 use Rattle.frame.specs.declared.Settings.{Settings}
-use Rattle.frame.specs.Objects.{Obj, firstScore, firstClass, spares}
+use Rattle.frame.specs.Objects.{Obj, firstScore, firstClass}
 use Rattle.frame.specs.Rounds.{View, unlessTaken, leftBy, firstMarks, firstRound, laterMarks, laterRound, rounds}
 
 unless-few : (m : ℤ) (o : Obj) (os : List Obj) → length (unlessTaken m o os) ≤ length os + 1
@@ -23,6 +22,5 @@ pub rounds-few : (s : Settings) (vs : List View) (os : List Obj) → length (rou
 unfolding rounds firstRound laterRound
 rounds-few s vs os =
     let w₀ = firstRound s vs (firstClass s os) in
-    let w₁ = laterRound 1 (λ (v : View). v .box) s (w₀ .slots) (pick (s .«use_byte») (spares s os) []) in
     omega
-    (arith, left-few (laterMarks (λ (v : View). v .last) s (w₁ .slots) (w₀ .left)) (w₀ .left), left-few (firstMarks s vs (firstClass s os)) (firstClass s os), keep-short (λ (o : Obj). firstScore s (o .det .score)) os)
+    (arith, left-few (laterMarks (λ (v : View). v .last) s (w₀ .slots) (w₀ .left)) (w₀ .left), left-few (firstMarks s vs (firstClass s os)) (firstClass s os), keep-short (λ (o : Obj). firstScore s (o .det .score)) os)

@@ -13,8 +13,8 @@ use Rattle.lists.proofs.Keep.{keep-short}
 use Rattle.object.specs.declared.Corners.{Corners}
 use Rattle.matching.specs.Associate.{cornersAt, associate, reassociate}
 use Rattle.frame.specs.declared.Settings.{Settings}
-use Rattle.frame.specs.Objects.{Obj, objectAt, objectsOf, firstClass, spares, firstScore, spareScore}
-use Rattle.frame.specs.Rounds.{View, Slot, Work, seat, emptySlot, noView, noSlot, noCorners, slotAt, viewAt, detOf, openFrom, placeOf, leftBy, firstRound, laterRound, rounds}
+use Rattle.frame.specs.Objects.{Obj, objectAt, objectsOf, firstClass, spares}
+use Rattle.frame.specs.Rounds.{View, Slot, Work, seat, emptySlot, noView, noSlot, noCorners, slotAt, viewAt, detOf, openFrom, placeOf, leftBy, firstRound, laterRound, byteObjects, lastRound, rounds}
 use Rattle.frame.proofs.Seats.{seat-views}
 use Rattle.objects.specs.declared.Dets.{Dets}
 use Rattle.objects.specs.Dets.{detsOf}
@@ -24,7 +24,7 @@ use Rattle.views.specs.declared.Views.{Views}
 use Rattle.views.specs.Views.{viewsOf}
 use Rattle.strack.specs.declared.Kept.{Kept}
 use Rattle.grants.specs.Grants.{grantsOf, LeftOf}
-use Rattle.rounds.specs.Pairs.{Pairs, FirstOf, LaterOf}
+use Rattle.rounds.specs.Pairs.{Pairs, FirstOf, LaterOf, SparesOf}
 use Rattle.views.proofs.Seeing.{views-count, boxes-at, lasts-at}
 use Rattle.grants.proofs.Opening.{take-few}
 use Rattle.grants.proofs.Leaving.{left-few}
@@ -66,25 +66,24 @@ module _ (ss : List Slot) (vs : List View) (e : viewsIn ss ≡ vs) where
 
 -- ---- the three rounds
 
-module _ (s : Settings) (vs : List View) (os : List Obj) (v : Views) (d₀ d₁ : Dets) (r₀ r₁ r₂ : Pairing)
+module _ (s : Settings) (vs : List View) (input : List Float) (v : Views) (d : Dets) (r₀ r₁ : Pairing) (grants : List Kept)
     (e : v ≡ viewsOf vs)
-    (f : d₀ ≡ detsOf (firstClass s os))
-    (g : d₁ ≡ detsOf (pick (s .«use_byte») (spares s os) []))
-    (h₀ : FirstOf s v d₀ r₀)
-    (h₁ : LaterOf (s .«iou_threshold») (v .boxes) (v .n) d₁ (r₀ .grants) r₁)
-    (h₂ : LaterOf (s .«iou_threshold») (v .lasts) (v .n) (r₀ .left) (r₁ .grants) r₂) where
-  pub rounds-are : Pairs (rounds s vs os) r₂
+    (f : d ≡ detsOf (firstClass s (objectsOf input)))
+    (h₀ : FirstOf s v d r₀)
+    (h₁ : LaterOf (s .«iou_threshold») (v .lasts) (v .n) (r₀ .left) (r₀ .grants) r₁)
+    (h₂ : SparesOf s input (v .boxes) (v .n) (r₁ .grants) grants) where
+  pub rounds-are : Pairs (rounds s vs (objectsOf input)) (record { grants = grants; left = r₁ .left })
   unfolding rounds
   rounds-are =
-      let w₀ : Work = firstRound s vs (firstClass s os) in
-      let w₁ : Work = laterRound 1 (λ (x : View). x .box) s (w₀ .slots) (pick (s .«use_byte») (spares s os) []) in
-      let v₀ : viewsIn (w₀ .slots) ≡ vs = first-views s vs (firstClass s os) in
-      let v₁ : viewsIn (w₁ .slots) ≡ vs = later-views 1 (λ (x : View). x .box) s (w₀ .slots) (pick (s .«use_byte») (spares s os) []) ∙ v₀ in
+      let w₀ : Work = firstRound s vs (firstClass s (objectsOf input)) in
+      let w₁ : Work = lastRound s (w₀ .slots) (w₀ .left) in
+      let v₀ : viewsIn (w₀ .slots) ≡ vs = first-views s vs (firstClass s (objectsOf input)) in
+      let v₁ : viewsIn (w₁ .slots) ≡ vs = later-views 2 (λ (x : View). x .last) s (w₀ .slots) (w₀ .left) ∙ v₀ in
       let n : v .n ≡ length vs = ap (λ (x : Views). x .n) e ∙ views-count vs in
-      let a : Pairs w₀ r₀ = h₀ vs (firstClass s os) e f in
+      let a : Pairs w₀ r₀ = h₀ vs (firstClass s (objectsOf input)) e f in
       let b : Pairs w₁ r₁
-      = h₁ 1 (λ (x : View). x .box) s (w₀ .slots) (pick (s .«use_byte») (spares s os) []) refl (ap (λ (x : Views). cornersAt (x .boxes)) e ∙ boxes-at vs ∙ same-targets (w₀ .slots) vs v₀ (λ (x : View). x .box)) (n ∙ same-count (w₀ .slots) vs v₀) g (a .0) in
-      h₂ 2 (λ (x : View). x .last) s (w₁ .slots) (w₀ .left) refl (ap (λ (x : Views). cornersAt (x .lasts)) e ∙ lasts-at vs ∙ same-targets (w₁ .slots) vs v₁ (λ (x : View). x .last)) (n ∙ same-count (w₁ .slots) vs v₁) (a .1) (b .0)
+      = h₁ 2 (λ (x : View). x .last) s (w₀ .slots) (w₀ .left) refl (ap (λ (x : Views). cornersAt (x .lasts)) e ∙ lasts-at vs ∙ same-targets (w₀ .slots) vs v₀ (λ (x : View). x .last)) (n ∙ same-count (w₀ .slots) vs v₀) (a .1) (a .0) in
+      (h₂ (w₁ .slots) (ap (λ (x : Views). cornersAt (x .boxes)) e ∙ boxes-at vs ∙ same-targets (w₁ .slots) vs v₁ (λ (x : View). x .box)) (n ∙ same-count (w₁ .slots) vs v₁) (b .0), b .1)
 
 -- ---- a round without objects
 
@@ -104,6 +103,22 @@ later-nothing thr boxes count d grants z k target s ss os e f n g h = go os (sym
     go [] l p = (h ∙ ap grantsOf (sym (seat-none k (laterMarks target s ss []) ss)), p ∙ ap detsOf (sym (left-none (laterMarks target s ss []))))
     go (o ∷ os) l p = absurd (let y : _≡_ {A = ℕ} 1 0 = omega (arith, l) in omega (arith, y))
 
+-- ---- the spare round
+
+pub spares-out : (s : Settings) (input boxes : List Float) (count : ℕ) (grants : List Kept) → s .«use_byte» ≡ false → SparesOf s input boxes count grants grants
+unfolding laterRound
+spares-out s input boxes count grants z ss f n h =
+    h
+    ∙ ap grantsOf
+    (sym
+    (ap (λ (b : Bool). laterRound 1 (λ (x : View). x .box) s ss (pick b (spares s (objectsOf input)) []) .slots) z
+    ∙ seat-none 1 (laterMarks (λ (x : View). x .box) s ss []) ss))
+
+pub spares-in : (s : Settings) (input boxes : List Float) (count : ℕ) (grants : List Kept) (d : Dets) (r : Pairing) → s .«use_byte» ≡ true → d ≡ detsOf (spares s (objectsOf input))
+    → LaterOf (s .«iou_threshold») boxes count d grants r → SparesOf s input boxes count grants (r .grants)
+spares-in s input boxes count grants d r z g l ss f n h =
+    l 1 (λ (x : View). x .box) s ss (byteObjects s (objectsOf input)) refl f n (g ∙ ap (λ (b : Bool). detsOf (pick b (spares s (objectsOf input)) [])) (sym z)) h .0
+
 -- ---- 64 at most
 
 pub few-views : {A : Type 0} (f : A → View) (count : ℕ) (table : List A) (v : Views) → v ≡ viewsOf (map f (take count table)) → count ≤ 64 → v .n ≤ 64
@@ -117,31 +132,5 @@ module _ (input : List Float) (h : length input ≤ 320) where
   pub few-kept : (t : Obj → Bool) (d : Dets) → d ≡ detsOf (keep t (objectsOf input)) → d .n ≤ 64
   few-kept t d e = rw e (omega (arith, dets-count (keep t (objectsOf input)), keep-short t (objectsOf input), few-objects))
 
-  few-picked : (b : Bool) (t : Obj → Bool) → length (pick b (keep t (objectsOf input)) []) ≤ 64
-  few-picked true t = omega (arith, keep-short t (objectsOf input), few-objects)
-  few-picked false t = omega arith
-
-  pub few-byte : (s : Settings) (d : Dets) → d ≡ detsOf (pick (s .«use_byte») (spares s (objectsOf input)) []) → d .n ≤ 64
-  few-byte s d e = rw e (omega (arith, dets-count (pick (s .«use_byte») (spares s (objectsOf input)) []), few-picked (s .«use_byte») (λ (o : Obj). spareScore s (o .det .score))))
-
 pub left-fits : (marks : List ℤ) (d r : Dets) → LeftOf marks d r → d .n ≤ 64 → (os : List Obj) → d ≡ detsOf os → r .n ≤ 64
 left-fits marks d r l h os e = rw (l os e) (omega (arith, h, dets-count (leftBy marks os), left-few marks os, ap (λ (x : Dets). x .n) e, dets-count os))
-
--- ---- for the frame
-
-pub rounds-count : (s : Settings) (vs : List View) (os : List Obj) → length (rounds s vs os .slots) ≡ length vs
-unfolding rounds
-rounds-count s vs os =
-    let w₀ : Work = firstRound s vs (firstClass s os) in
-    let w₁ : Work = laterRound 1 (λ (x : View). x .box) s (w₀ .slots) (pick (s .«use_byte») (spares s os) []) in
-    let w₂ : Work = laterRound 2 (λ (x : View). x .last) s (w₁ .slots) (w₀ .left) in
-    let e : viewsIn (w₂ .slots) ≡ vs
-    = later-views 2 (λ (x : View). x .last) s (w₁ .slots) (w₀ .left) ∙ later-views 1 (λ (x : View). x .box) s (w₀ .slots) (pick (s .«use_byte») (spares s os) []) ∙ first-views s vs (firstClass s os) in
-    sym (same-count (w₂ .slots) vs e)
-
-pub rounds-left : (s : Settings) (vs : List View) (os : List Obj) → length (rounds s vs os .left) ≤ length os
-unfolding rounds firstRound laterRound
-rounds-left s vs os =
-    let w₀ : Work = firstRound s vs (firstClass s os) in
-    let w₁ : Work = laterRound 1 (λ (x : View). x .box) s (w₀ .slots) (pick (s .«use_byte») (spares s os) []) in
-    omega (arith, left-few (laterMarks (λ (x : View). x .last) s (w₁ .slots) (w₀ .left)) (w₀ .left), left-few (firstMarks s vs (firstClass s os)) (firstClass s os), keep-short (λ (o : Obj). firstScore s (o .det .score)) os)

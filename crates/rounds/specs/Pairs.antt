@@ -8,8 +8,8 @@ use Rattle.object.specs.declared.Corners.{Corners}
 use Rattle.strack.specs.declared.Kept.{Kept}
 use Rattle.matching.specs.Associate.{cornersAt}
 use Rattle.frame.specs.declared.Settings.{Settings}
-use Rattle.frame.specs.Objects.{Obj}
-use Rattle.frame.specs.Rounds.{View, Slot, Work, slotAt, firstRound, laterRound}
+use Rattle.frame.specs.Objects.{Obj, objectsOf}
+use Rattle.frame.specs.Rounds.{View, Slot, Work, slotAt, firstRound, laterRound, byteObjects, spareRound}
 use Rattle.objects.specs.declared.Dets.{Dets}
 use Rattle.objects.specs.Dets.{detsOf}
 use Rattle.rounds.specs.declared.Pairing.{Pairing}
@@ -31,3 +31,8 @@ LaterOf thr boxes count d grants r =
     (k : ℕ) (target : View → Corners) (s : Settings) (ss : List Slot) (os : List Obj)
     → thr ≡ s .«iou_threshold» → cornersAt boxes ≡ (λ j. target (slotAt ss j .view)) → count ≡ length ss → d ≡ detsOf os → grants ≡ grantsOf ss
     → Pairs (laterRound k target s ss os) r
+
+-- the spare round on a frame's raw numbers: what the tracks hold after it
+abbrev pub SparesOf : Settings → List Float → List Float → ℕ → List Kept → List Kept → Type 0
+SparesOf s input boxes count grants r =
+    (ss : List Slot) → cornersAt boxes ≡ (λ j. slotAt ss j .view .box) → count ≡ length ss → grants ≡ grantsOf ss → r ≡ grantsOf (spareRound s ss (byteObjects s (objectsOf input)) .slots)

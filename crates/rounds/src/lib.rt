@@ -1,4 +1,4 @@
-// The rounds that pair a frame's objects with the tracks: document 01, item 6.
+// The rounds that pair a frame's objects with the tracks: document 01, item 6, in the order of document 02, 2.8.
 use frame::Settings;
 use frame::Tracked;
 use grants::Places;
@@ -7,17 +7,17 @@ use objects::Dets;
 use strack::Kept;
 use views::Views;
 ghost use mathlib.Core.Path.{_≡_};
-ghost use mathlib.Core.List.{List, [], map};
+ghost use mathlib.Core.List.{List, map};
 ghost use Prim.Native.Nat.{_≤_};
 ghost use lib.ListN.{length, take};
-ghost use Rattle.lists.specs.Lists.{pick, All};
-ghost use Rattle.frame.specs.Objects.{Obj, objectsOf, spares};
+ghost use Rattle.lists.specs.Lists.{All};
+ghost use Rattle.frame.specs.Objects.{Obj, objectsOf};
 ghost use Rattle.frame.specs.Rounds.{View, placeOf, rounds};
 ghost use Rattle.frame.specs.Frame.{trackedView};
 ghost use Rattle.objects.specs.Dets.{detsOf, detsIn};
 ghost use Rattle.grants.specs.Grants.{seated, Names, LeftOf};
 ghost use Rattle.views.specs.Views.{viewsOf};
-ghost use Rattle.rounds.specs.Pairs.{Pairs, FirstOf, LaterOf};
+ghost use Rattle.rounds.specs.Pairs.{Pairs, FirstOf, LaterOf, SparesOf};
 
 // What each track was granted, and the first-class objects that no round paired.
 pub struct Pairing {
@@ -86,18 +86,26 @@ fn later_round(thr: f32, boxes: [f32; 256], count: usize, dets: Dets, grants: [K
     rematched(thr, boxes, count, dets, grants)
 }
 
-// The spares, where `use_byte` lets them in.
-fn byte_objects(s: Settings, input: &[f32]) -> Dets
-    requires { ⌜ length (now input) ≤ 320 ⌝ }
-    ensures { λ r. ⌜ r ≡ detsOf (pick (s .«use_byte») (spares s (objectsOf (now (input .entry)))) []) ⌝ }
+// The spare round, on predicted boxes. Spares are gathered only where `use_byte` lets them in.
+fn spare_round(
+    s: Settings,
+    boxes: [f32; 256],
+    count: usize,
+    input: &[f32],
+    grants: [Kept; 64],
+) -> [Kept; 64]
+    requires { ⌜ (count ≤ 64) × (length (now input) ≤ 320) ⌝ }
+    ensures { λ r. ⌜ SparesOf s (now (input .entry)) boxes count grants r ⌝ }
 {
     if s.use_byte {
-        return objects::spare(s, input);
+        let spares = objects::spare(s, input);
+        let byte = later_round(s.iou_threshold, boxes, count, spares, grants);
+        return byte.grants;
     }
-    objects::none()
+    grants
 }
 
-// Predicted boxes; spares; last boxes.
+// Predicted boxes; last boxes; spares: document 02, 2.8.
 pub fn paired_by(s: Settings, v: Views, input: &[f32]) -> Pairing
     requires { ⌜ (v .n ≤ 64) × (length (now input) ≤ 320) ⌝ }
     ensures { λ r. ⌜ ((vs : List View) → v ≡ viewsOf vs → Pairs (rounds s vs (objectsOf (now (input .entry)))) r) ⌝ }
@@ -105,15 +113,15 @@ pub fn paired_by(s: Settings, v: Views, input: &[f32]) -> Pairing
     let count = v.n;
     let boxes = v.boxes;
     let lasts = v.lasts;
-    let thr = s.iou_threshold;
     let firsts = objects::first_class(s, input);
-    let spares = byte_objects(s, input);
     let first = first_round(s, v, firsts);
     let given = first.grants;
     let left = first.left;
-    let byte = later_round(thr, boxes, count, spares, given);
-    let given = byte.grants;
-    later_round(thr, lasts, count, left, given)
+    let last = later_round(s.iou_threshold, lasts, count, left, given);
+    let given = last.grants;
+    let left = last.left;
+    let grants = spare_round(s, boxes, count, input, given);
+    Pairing { grants, left }
 }
 
 // The rounds over the first `count` tracks of a table.

@@ -19,7 +19,7 @@ use Rattle.frame.specs.declared.Outcome.{Outcome}
 use Rattle.frame.specs.declared.Outcome.the-variants.{Accepted, Refused}
 use Rattle.frame.specs.State.{inRange}
 use Rattle.frame.specs.Objects.{Obj, detectionAt, objectsOf, firstScore, spareScore, firstClass, spares}
-use Rattle.frame.specs.Rounds.{View, Slot, Work}
+use Rattle.frame.specs.Rounds.{View, Slot, Work, byteObjects}
 use Rattle.frame.specs.Frame.{Call, early}
 use Rattle.frame.specs.Contract.{outcomeOf}
 use Rattle.run_book.specs.Book.{broken, agedOut, Entry, Book, live, closedBy, breaks, breakEntry, isOld, ageEntry, viewOfEntry, nextLine, write, opened, entriesAfter, entered, roundsOf, enterAt, enter}
@@ -27,7 +27,7 @@ use Rattle.run_book.specs.Claim.{timesWritten, boxesOf, Meets, Because, 
 use Rattle.run_book.specs.Laws.{scoreAt, PlacedAt, Tidy, Laws}
 use Rattle.frame.proofs.Seats.{rounds-length, Fairly, slot-weight, GotSlot}
 use Rattle.lapjv_walk.proofs.Cases.{never}
-use Rattle.run_book.proofs.Rounds.{byteObjects, rounds-views, rounds-fairly, rounds-weight, rounds-from}
+use Rattle.run_book.proofs.Rounds.{rounds-views, rounds-fairly, rounds-weight, rounds-from}
 use Rattle.run_book.proofs.Sim.{write-length, opened-length}
 use Rattle.run_book.proofs.Writing.{write-all, ids, ids-status, ids-write, ids-opened, hit, grown-write, born-opened}
 use Rattle.run_book.proofs.Lines.{all-both, LivedEntry, Fit, fit-break, fit-line, lived-opened, Spanned, BetweenEntry, span-break, span-stays, span-line, span-age, span-opened, all-current}

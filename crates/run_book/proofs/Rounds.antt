@@ -25,8 +25,9 @@ use Rattle.assoc.proofs.Matching.{associate-fair, reassociate-fair}
 use Rattle.frame.specs.declared.Settings.{Settings}
 use Rattle.frame.specs.State.{inRange, unitRange}
 use Rattle.frame.specs.Objects.{Obj, firstClass, spares, firstScore, spareScore}
-use Rattle.frame.specs.Rounds.{View, Grant, Slot, Work, emptySlot, noView, noCorners, noObj, slotAt, viewAt, detOf, unlessGranted, openFrom, placeOf, firstRound, laterRound, rounds, firstMarks}
+use Rattle.frame.specs.Rounds.{View, Grant, Slot, Work, emptySlot, noView, noCorners, noObj, slotAt, viewAt, detOf, unlessGranted, openFrom, placeOf, leftBy, firstMarks, firstRound, laterRound, byteObjects, lastRound, rounds}
 use Rattle.run_book.specs.Claim.{Meets, targetOf}
+use Rattle.frame.proofs.OpenSlots.{OpenAt, open-at, box-at}
 use Rattle.frame.proofs.Seats.{Unnamed, Seats, Fairly, seat-views, seat-fairly, slot-weight, seat-weight, seat-keeps, GotSlot, seat-from, left-from}
 
 -- ---- from marks by index to seats in turn
@@ -74,25 +75,6 @@ threshold-number s h =
     no-nan-above (f32 0) (s .«iou_threshold») (and-left (le (f32 0) (s .«iou_threshold»)) (le (s .«iou_threshold») (f32 0x3f80_0000)) u)
 
 -- ---- the open slots
-
--- the j-th open slot, counted from b, stands d places behind b and has no grant
-pub record OpenAt (b : ℕ) (ss : List Slot) (j : ℕ) : Type 0 where
-  pub d : ℕ
-  pub place : getD (openFrom b ss) j 0 ≡ b + d
-  pub there : d < length ss
-  pub empty : slotAt ss d .got ≡ none
-
-open-behind : (b : ℕ) (a : Slot) (ss : List Slot) (j k : ℕ) → getD (openFrom b (a ∷ ss)) j 0 ≡ getD (openFrom (suc b) ss) k 0 → OpenAt (suc b) ss k → OpenAt b (a ∷ ss) j
-open-behind b a ss j k e o = record { d = suc (o .d); place = e ∙ o .place ∙ omega arith; there = omega (arith, o .there); empty = o .empty }
-
-open-at : (b : ℕ) (ss : List Slot) (j : ℕ) → j < length (openFrom b ss) → OpenAt b ss j
-open-at b [] j h = absurd (not-suc-le-zero h)
-open-at b (a ∷ ss) j h = go (a .got) refl j h (open-at (suc b) ss)
-  where
-    go : (g : Option Grant) → a .got ≡ g → (j : ℕ) → j < length (unlessGranted g b (openFrom (suc b) ss)) → ((k : ℕ) → k < length (openFrom (suc b) ss) → OpenAt (suc b) ss k) → OpenAt b (a ∷ ss) j
-    go none e zero l ih = record { d = 0; place = rw e (omega arith); there = omega arith; empty = e }
-    go none e (suc j) l ih = open-behind b a ss (suc j) j (rw e refl) (ih j (le-of-suc-le-suc l))
-    go (some g) e j l ih = open-behind b a ss j j (rw e refl) (ih j l)
 
 -- open places rise
 open-rises : (b : ℕ) (ss : List Slot) (i k : ℕ) → i < k → k < length (openFrom b ss) → getD (openFrom b ss) i 0 < getD (openFrom b ss) k 0
@@ -145,20 +127,12 @@ named : (js : List ℕ) (m : ℤ) (t : ℕ) → placeOf js m ≡ pos t → Named
 named js (pos j) t e = record { j = j; mark = refl; place = pos-inj (getD js j 0) t e }
 named js (negsuc n) t e = absurd (let z : _≡_ {A = ℕ} 0 1 = cc in omega arith)
 
-getD-map-below : {A B : Type 0} (f : A → B) (l : List A) (i : ℕ) (d : A) (z : B) → i < length l → getD (map f l) i z ≡ f (getD l i d)
-getD-map-below f [] i d z h = absurd (not-suc-le-zero h)
-getD-map-below f (a ∷ l) zero d z h = refl
-getD-map-below f (a ∷ l) (suc i) d z h = getD-map-below f l i d z (le-of-suc-le-suc h)
-
 module _ (s : Settings) (k : ℕ) (ss : List Slot) (os : List Obj) where
   abbrev js : List ℕ
   js = openFrom 0 ss
 
   abbrev boxAt : ℕ → Corners
   boxAt j = getD (map (λ i. targetOf k (slotAt ss i .view)) js) j noCorners
-
-  box-at : (j : ℕ) → j < length js → boxAt j ≡ targetOf k (slotAt ss (getD js j 0) .view)
-  box-at j h = getD-map-below (λ i. targetOf k (slotAt ss i .view)) js j 0 noCorners h
 
   abbrev openMarks : List ℤ
   openMarks = reassociate (thr s) (length os) (length js) (detOf os) boxAt
@@ -175,7 +149,7 @@ module _ (s : Settings) (k : ℕ) (ss : List Slot) (os : List Obj) where
       let q : Named js (markAt openMarks i) t = n i t h e in
       let o : OpenAt 0 ss (q .j) = open-at 0 ss (q .j) (f .paired .below i (q .j) h (q .mark)) in
       let d : o .d ≡ t = omega (arith, o .place, q .place) in
-      (omega (arith, d, o .there), ap (λ (x : ℕ). slotAt ss x .got) (sym d) ∙ o .empty, subst (λ (x : ℕ). Meets s k (getD os i noObj) (slotAt ss x .view)) (q .place) (subst (λ (c : Corners). T (le (thr s) (overlapOf (cornersOf (detOf os i)) c))) (box-at (q .j) (f .paired .below i (q .j) h (q .mark))) (f .meets i (q .j) h (q .mark)))))
+      (omega (arith, d, o .there), ap (λ (x : ℕ). slotAt ss x .got) (sym d) ∙ o .empty, subst (λ (x : ℕ). Meets s k (getD os i noObj) (slotAt ss x .view)) (q .place) (subst (λ (c : Corners). T (le (thr s) (overlapOf (cornersOf (detOf os i)) c))) (box-at (targetOf k) ss (q .j) (f .paired .below i (q .j) h (q .mark))) (f .meets i (q .j) h (q .mark)))))
       (λ i m t h g e d.
       let a : Named js (markAt openMarks i) t = n i t h e in
       let b : Named js (markAt openMarks m) t = n m t g d in
@@ -184,24 +158,21 @@ module _ (s : Settings) (k : ℕ) (ss : List Slot) (os : List Obj) where
 
 -- ---- the three rounds
 
-abbrev pub byteObjects : Settings → List Obj → List Obj
-byteObjects s os = pick (s .«use_byte») (spares s os) []
-
 module _ (s : Settings) (fine : inRange s ≡ true) (vs : List View) (os : List Obj) where
   abbrev r₀ : Work
   r₀ = firstRound s vs (firstClass s os)
 
   abbrev r₁ : Work
-  r₁ = laterRound 1 (λ (v : View). v .box) s (r₀ .slots) (byteObjects s os)
+  r₁ = lastRound s (r₀ .slots) (r₀ .left)
 
   abbrev m₀ : List ℤ
   m₀ = firstMarks s vs (firstClass s os)
 
   abbrev m₁ : List ℤ
-  m₁ = map (placeOf (openFrom 0 (r₀ .slots))) (openMarks s 1 (r₀ .slots) (byteObjects s os))
+  m₁ = map (placeOf (openFrom 0 (r₀ .slots))) (openMarks s 2 (r₀ .slots) (r₀ .left))
 
   abbrev m₂ : List ℤ
-  m₂ = map (placeOf (openFrom 0 (r₁ .slots))) (openMarks s 2 (r₁ .slots) (r₀ .left))
+  m₂ = map (placeOf (openFrom 0 (r₁ .slots))) (openMarks s 1 (r₁ .slots) (byteObjects s os))
 
   empty-views : (us : List View) → map (λ (a : Slot). a .view) (map emptySlot us) ≡ us
   empty-views [] = refl
@@ -209,7 +180,7 @@ module _ (s : Settings) (fine : inRange s ≡ true) (vs : List View) (os : List 
 
   pub rounds-views : map (λ (a : Slot). a .view) (rounds s vs os .slots) ≡ vs
   unfolding rounds firstRound laterRound
-  rounds-views = seat-views 2 m₂ (r₀ .left) (r₁ .slots) ∙ seat-views 1 m₁ (byteObjects s os) (r₀ .slots) ∙ seat-views 0 m₀ (firstClass s os) (map emptySlot vs) ∙ empty-views vs
+  rounds-views = seat-views 1 m₂ (byteObjects s os) (r₁ .slots) ∙ seat-views 2 m₁ (r₀ .left) (r₀ .slots) ∙ seat-views 0 m₀ (firstClass s os) (map emptySlot vs) ∙ empty-views vs
 
   empty-fairly : (us : List View) → All (Fairly (Meets s)) (map emptySlot us)
   empty-fairly [] = tt
@@ -218,8 +189,8 @@ module _ (s : Settings) (fine : inRange s ≡ true) (vs : List View) (os : List 
   pub rounds-fairly : All (Fairly (Meets s)) (rounds s vs os .slots)
   unfolding rounds firstRound laterRound
   rounds-fairly =
-      seat-fairly (Meets s) 2 m₂ (r₀ .left) (r₁ .slots) (later-seats s 2 (r₁ .slots) (r₀ .left))
-      (seat-fairly (Meets s) 1 m₁ (byteObjects s os) (r₀ .slots) (later-seats s 1 (r₀ .slots) (byteObjects s os))
+      seat-fairly (Meets s) 1 m₂ (byteObjects s os) (r₁ .slots) (later-seats s 1 (r₁ .slots) (byteObjects s os))
+      (seat-fairly (Meets s) 2 m₁ (r₀ .left) (r₀ .slots) (later-seats s 2 (r₀ .slots) (r₀ .left))
       (seat-fairly (Meets s) 0 m₀ (firstClass s os) (map emptySlot vs) (first-seats s fine vs (firstClass s os)) (empty-fairly vs)))
 
   module _ (f : Obj → ℕ) where
@@ -232,10 +203,10 @@ module _ (s : Settings) (fine : inRange s ≡ true) (vs : List View) (os : List 
     unfolding rounds firstRound laterRound
     rounds-weight =
         let w₀ = seat-weight f (Meets s 0) 0 m₀ (firstClass s os) (map emptySlot vs) (first-seats s fine vs (firstClass s os)) in
-        let w₁ = seat-weight f (Meets s 1) 1 m₁ (byteObjects s os) (r₀ .slots) (later-seats s 1 (r₀ .slots) (byteObjects s os)) in
-        let k₁ = seat-keeps f (Meets s 1) 1 m₁ (byteObjects s os) (r₀ .slots) (later-seats s 1 (r₀ .slots) (byteObjects s os)) in
-        let w₂ = seat-weight f (Meets s 2) 2 m₂ (r₀ .left) (r₁ .slots) (later-seats s 2 (r₁ .slots) (r₀ .left)) in
-        (sumOf f (r₁ .left), omega (arith, w₀, w₁, w₂, empty-weight vs), omega (arith, w₁, k₁))
+        let w₁ = seat-weight f (Meets s 2) 2 m₁ (r₀ .left) (r₀ .slots) (later-seats s 2 (r₀ .slots) (r₀ .left)) in
+        let w₂ = seat-weight f (Meets s 1) 1 m₂ (byteObjects s os) (r₁ .slots) (later-seats s 1 (r₁ .slots) (byteObjects s os)) in
+        let k₂ = seat-keeps f (Meets s 1) 1 m₂ (byteObjects s os) (r₁ .slots) (later-seats s 1 (r₁ .slots) (byteObjects s os)) in
+        (sumOf f (leftBy m₂ (byteObjects s os)), omega (arith, w₀, w₁, w₂, empty-weight vs), omega (arith, w₂, k₂))
 
   -- the rounds hand out only what they are given
   module _ (P : Obj → Type 0) where
@@ -256,4 +227,4 @@ module _ (s : Settings) (fine : inRange s ≡ true) (vs : List View) (os : List 
         let f : All P (firstClass s os) = keep-all P (λ (o : Obj). firstScore s (o .det .score)) os a in
         let g₀ : All (GotSlot P) (r₀ .slots) = seat-from P 0 m₀ (firstClass s os) (map emptySlot vs) f (empty-got vs) in
         let l₀ : All P (r₀ .left) = left-from P m₀ (firstClass s os) f in
-        (seat-from P 2 m₂ (r₀ .left) (r₁ .slots) l₀ (seat-from P 1 m₁ (byteObjects s os) (r₀ .slots) (byte-all a) g₀), left-from P m₂ (r₀ .left) l₀)
+        (seat-from P 1 m₂ (byteObjects s os) (r₁ .slots) (byte-all a) (seat-from P 2 m₁ (r₀ .left) (r₀ .slots) l₀ g₀), left-from P m₁ (r₀ .left) l₀)

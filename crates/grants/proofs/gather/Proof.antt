@@ -4,10 +4,11 @@ use mathlib.Core.List.{map}
 use Prim.Native.Nat.{_-_, _≤_, _<_}
 use native.Mathlib.Omega.{arith}
 use lib.ListN.{length, getD, take, length-map}
+use Rattle.lists.proofs.All.{all-at}
 use Rattle.matching.specs.Associate.{cornersAt}
 use Rattle.grants.specs.Grants.{boxesOf}
 use Rattle.grants.proofs.Known.{at-long}
-use Rattle.grants.proofs.Opening.{all-at, take-few, gather-turn, gathered-long}
+use Rattle.grants.proofs.Opening.{take-few, gather-turn, gathered-long}
 use borrow.Author.Needs.{needs}
 use Rattle.grants.proofs.gather.Statement.{statement}
 use Rattle.grants.proofs.gather.Tie as tie

@@ -8,11 +8,11 @@ use lib.ListN.{getD, take}
 use mir.Syntax.{w64}
 use mir.ValLaws.{toZ-ofZ}
 use Rattle.lists.specs.Lists.{tab}
+use Rattle.lists.proofs.All.{all-at}
 use Rattle.matching.specs.Associate.{detAt}
 use Rattle.frame.specs.Rounds.{placeOf}
 use Rattle.grants.specs.Grants.{seated, Names}
 use Rattle.grants.proofs.Known.{cells-long}
-use Rattle.grants.proofs.Opening.{all-at}
 use Rattle.grants.proofs.Seating.{turn}
 use borrow.Author.Needs.{needs}
 use Rattle.grants.proofs.seat.Statement.{statement}

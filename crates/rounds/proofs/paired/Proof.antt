@@ -1,6 +1,7 @@
 -- `rounds::paired` meets its contract. Assumes nothing.
 use mathlib.Core.List.{map}
 use lib.ListN.{take}
+use Rattle.frame.specs.Rounds.{rounds}
 use Rattle.frame.specs.Frame.{trackedView}
 use Rattle.rounds.proofs.Whole.{few-views}
 use borrow.Author.Needs.{needs}
@@ -16,6 +17,7 @@ paired-by-requires c κs =
     (few-views (trackedView (s .args .s)) (s .args .count) (s .args .table) (c .all .result) (c .all .ensures) (s .pre .0), s .pre .1)
 
 returns : tie.Need-returns
+unfolding rounds
 returns c =
     let s = c .before .before .before in
     c .paired-by .ensures (map (trackedView (s .args .s)) (take (s .args .count) (s .args .table))) (c .before .all .ensures)
