@@ -1,5 +1,7 @@
 // The assignment of objects to tracks: the costs that a matrix of numbers gives, and what `lapjv` makes of them. Document 01, items 3 and 6.
 // Matrices are lent row after row, an object each, as many numbers a row as there are tracks.
+#![tactic(auto)]
+
 ghost use Rattle.std.specs.Prelude.{◌≡◌, ◌&&◌, ◌++◌, ◌-◌, ◌*◌, ◌≤◌, ltb, length, drop, replicate};
 ghost use Rattle.std.specs.Float.{binary64};
 ghost use Rattle.std.specs.Float.Ieee.{neg, of_bits};

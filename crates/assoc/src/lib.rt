@@ -1,5 +1,7 @@
 // Association of detections with tracks: assoc.rs, document 01, item 3, and the later rounds' matching of item 6.
 // Objects are lent as five numbers each (corners and score), boxes as four, directions as two (dy, dx). Overlaps are lent row after row, an object each.
+#![tactic(auto)]
+
 ghost use Rattle.std.specs.Prelude.{◌≡◌, ◌++◌, ◌-◌, ◌*◌, ◌≤◌, length, replicate};
 ghost use Rattle.std.specs.Float.{binary32};
 ghost use Rattle.std.specs.Float.Ieee.{add};

@@ -1,4 +1,6 @@
 // The matrices of all objects and all tracks, row after row, an object each: overlaps, and overlap plus angle term. assoc.rs, document 01, item 3.
+#![tactic(auto)]
+
 ghost use Rattle.std.specs.Prelude.{◌≡◌, ◌++◌, ◌*◌, ◌≤◌, length, get_or, drop};
 ghost use Rattle.std.specs.Float.{binary32, nan};
 ghost use Rattle.std.specs.Float.Ieee.{add, sub};

@@ -1,11 +1,13 @@
 // The exported frame call in its plain form: the whole image is converted there and back. tests/boundary holds `satinjacks_update_lists` against it.
+#![tactic(auto)]
+
 ghost use Rattle.update_in_lists.specs.Host.{Hosted};
 
 use image::TrackerImage;
 use update_in_lists::Reply;
 
 #[repr(C)]
-#[derive(Drop)]
+#[derive(Clone, Copy)]
 pub struct Stepped {
     pub image: TrackerImage,
     pub reply: Reply,

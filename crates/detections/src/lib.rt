@@ -1,4 +1,6 @@
 // The objects of a frame, told apart by their scores: document 01, item 6.
+#![tactic(auto)]
+
 ghost use Rattle.std.specs.Prelude.{◌≡◌, ◌+◌, ◌*◌, ◌≤◌, ◌<◌, length, []};
 ghost use Rattle.std.specs.Float.{nan};
 ghost use Rattle.lists.specs.Lists.{pick};
@@ -9,7 +11,7 @@ use frame::Settings;
 use object::{Detection, Object, Rect};
 
 // Up to 64 detections, five numbers each: corners and score. Cells past them are NaN.
-#[derive(Drop)]
+#[derive(Clone, Copy)]
 pub struct Dets {
     pub n: usize,
     pub cells: [f32; 320],

@@ -1,8 +1,10 @@
 // The tracker: oc_sort_tracker.rs, document 01, item 6.
+#![tactic(auto)]
+
 use object::Refusal;
 use strack::Track;
 
-#[derive(Drop)]
+#[derive(Clone, Copy)]
 pub struct Settings {
     pub det_thresh: f32,
     pub iou_threshold: f32,
@@ -14,14 +16,14 @@ pub struct Settings {
 }
 
 // A track beside its id.
-#[derive(Drop)]
+#[derive(Clone, Copy)]
 pub struct Tracked {
     pub id: u64,
     pub track: Track,
 }
 
 // The whole state: the first `count` cells of the table are the live tracks, in birth order.
-#[derive(Drop)]
+#[derive(Clone, Copy)]
 pub struct Tracker {
     pub settings: Settings,
     pub frames: u32,
@@ -31,14 +33,14 @@ pub struct Tracker {
 }
 
 // What became of a call.
-#[derive(Drop)]
+#[derive(Clone, Copy)]
 pub enum Outcome {
     Accepted,
     Refused(Refusal),
 }
 
 // What a frame call returns: its outcome, how many reports stand in the buffers, and the state to go on with.
-#[derive(Drop)]
+#[derive(Clone, Copy)]
 pub struct Answer {
     pub outcome: Outcome,
     pub count: usize,
@@ -46,7 +48,7 @@ pub struct Answer {
 }
 
 // What making a tracker returns.
-#[derive(Drop)]
+#[derive(Clone, Copy)]
 pub struct Made {
     pub outcome: Outcome,
     pub tracker: Tracker,

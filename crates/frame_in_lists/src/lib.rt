@@ -1,4 +1,6 @@
 // The parts of a frame in place, each on the lists of an image: what comes before the loops, what a turn of them does to one track, and what comes last.
+#![tactic(auto)]
+
 ghost use Rattle.std.specs.Prelude.{◌≡◌, true, ◌+◌, ◌*◌, ◌≤◌, ◌<◌, length};
 ghost use Rattle.image.specs.Image.{image_of};
 ghost use Rattle.reports.specs.Written.{low_id};
@@ -37,7 +39,7 @@ pub fn are_totals_usable(wide: &[u64; 67], floats: &[f32; 10435], words: &[u32; 
 // ---- up to the rounds
 
 // A track read, and whether it means something and obeys the state rules. Then it is one frame ahead, and the next track's id is `next` or above.
-#[derive(Drop)]
+#[derive(Clone, Copy)]
 pub struct Ahead {
     pub usable: bool,
     pub unbroken: bool,

@@ -1,4 +1,6 @@
 // The state that an image stands for. Its lists are lent and each track is read alone, so no call but `decode` copies the whole.
+#![tactic(auto)]
+
 ghost use Rattle.std.specs.Prelude.{◌≡◌, ◌+◌, ◌≤◌, ◌<◌};
 ghost use Rattle.image.specs.Image.{filter_at, box_at, list_at, direction_at, kept_at, decode_track, image_of, cell_at, decode_tracker};
 

@@ -1,4 +1,6 @@
 // The replay of a gap (kalman_filter.rs; document 01, item 4): the filter of crate `kalman_filter` over virtual boxes on a straight line, and over the box that ended the gap.
+#![tactic(auto)]
+
 ghost use Rattle.std.specs.Prelude.{◌≡◌, ◌≤◌};
 ghost use Rattle.gap.specs.Gap.{replay_of};
 ghost use Rattle.gap.specs.Line.{line_of, box_at};
@@ -6,7 +8,7 @@ ghost use Rattle.gap.specs.Line.{line_of, box_at};
 use kalman_filter::{DetectBox, Filter};
 
 // Where a line of virtual boxes starts, and its change a frame.
-#[derive(Drop)]
+#[derive(Clone, Copy)]
 struct Line {
     x: f32,
     y: f32,

@@ -1,4 +1,6 @@
 // What each track was granted, which tracks are still open, and what a round gives and leaves.
+#![tactic(auto)]
+
 ghost use Rattle.std.specs.Prelude.{◌≡◌, [], map, ◌≤◌, ◌<◌, take, replicate};
 ghost use Rattle.std.proofs.Math.Option.{none};
 ghost use Rattle.lists.specs.Lists.{pick, All};
@@ -13,7 +15,7 @@ use object::Detection;
 use strack::{Kept, LastBox};
 
 // The places of n slots. Cells past them are 0.
-#[derive(Drop)]
+#[derive(Clone, Copy)]
 pub struct Places {
     pub n: usize,
     pub at: [usize; 64],

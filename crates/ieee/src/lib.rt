@@ -1,4 +1,6 @@
 // IEEE 754 on f32, as document 01's stand-ins ask for it: comparisons that know a NaN, the square root (by the whole roots of crate `roots`), and the arc cosine.
+#![tactic(auto)]
+
 ghost use Rattle.std.specs.Prelude.{◌≡◌, T, cond, ◌*◌, ◌^◌, ◌<◌};
 ghost use Rattle.std.specs.Float.{binary32};
 ghost use Rattle.std.specs.Float.Ieee.{is_nan, lt, neg, of_bits};
@@ -66,7 +68,7 @@ pub fn abs(x: f32) -> f32
 }
 
 // m * 2^p
-#[derive(Drop)]
+#[derive(Clone, Copy)]
 pub struct Scaled {
     pub m: u64,
     pub p: u64,

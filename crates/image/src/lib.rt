@@ -1,4 +1,6 @@
 // The state as C and Rust pass it, without enums and bools: three lists of numbers, one for each type, and whether they mean something. from_image reads a state from them, to_image writes one.
+#![tactic(auto)]
+
 ghost use Rattle.std.specs.Prelude.{◌≡◌, ◌<◌};
 ghost use Rattle.image.specs.Image.{headed, is_set, tagged, meant_track, image_of, cell_at, meant};
 
@@ -7,7 +9,7 @@ pub const LAYOUT: u64 = 1_000_000_001;
 
 // The whole state, in 46,136 bytes without padding. What stands where: specs/Image.antt.
 #[repr(C)]
-#[derive(Drop)]
+#[derive(Clone, Copy)]
 pub struct TrackerImage {
     pub wide: [u64; 67],
     pub floats: [f32; 10435],

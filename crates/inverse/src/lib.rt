@@ -1,17 +1,19 @@
 // The inverse of a 4 by 4 matrix of f32, by Gauss-Jordan without row exchange: document 01's stand-in for the Rust's `try_inverse`.
+#![tactic(auto)]
+
 ghost use Rattle.std.specs.Prelude.{◌≡◌, ◌<◌};
 ghost use Rattle.inverse.specs.Inverse.{beside, unusable, scaled, reduced, right_half, inverse};
 ghost use Rattle.inverse.specs.Round.{rows_of, turned};
 
 // The inverse of a 4 by 4 matrix. Where there is none, its entries are zeros.
-#[derive(Drop)]
+#[derive(Clone, Copy)]
 pub struct Inverse {
     pub exists: bool,
     pub entries: [f32; 16],
 }
 
 // Four rows of the matrix beside the identity. The row at a holds the next pivot: column after column they go round.
-#[derive(Drop)]
+#[derive(Clone, Copy)]
 struct Round {
     a: [f32; 8],
     b: [f32; 8],

@@ -1,4 +1,6 @@
 // The Kalman filter of kalman_filter.rs (document 01, item 4): its start, predict and update. The replay of a gap is crate `gap`.
+#![tactic(auto)]
+
 ghost use Rattle.std.specs.Prelude.{◌≡◌};
 ghost use Rattle.matrix.specs.Matrix.{product, transpose};
 ghost use Rattle.kalman_filter.specs.Filter.{r_matrix, start_of, predict_of, inverse_or_identity, gain_of, joseph_of, update_of};
@@ -6,14 +8,14 @@ ghost use Rattle.kalman_filter.specs.Filter.{r_matrix, start_of, predict_of, inv
 // The 7 state numbers (x, y, area, ratio, and the speeds of the first three) and their covariance, row after row.
 // C and Rust pass it too, in the image of a state.
 #[repr(C)]
-#[derive(Drop)]
+#[derive(Clone, Copy)]
 pub struct Filter {
     pub x: [f32; 7],
     pub p: [f32; 49],
 }
 
 // A measured box: centre, area, and width over height.
-#[derive(Drop)]
+#[derive(Clone, Copy)]
 pub struct DetectBox {
     pub x: f32,
     pub y: f32,

@@ -1,4 +1,6 @@
 // The assignment's steps (lapjv.rs) on whole costs (document 02, 2.3): total, and a cheapest pairing.
+#![tactic(auto)]
+
 ghost use Rattle.std.specs.Prelude.{◌≡◌, ◌<◌, pos, get_or, length};
 ghost use Rattle.lists.specs.Lists.{tab};
 ghost use Rattle.lapjv_walk.specs.Lapjv.{ca_step, ca_dense, lapjv};

@@ -1,4 +1,6 @@
 // `carr_dence` over whole numbers (document 02, 2.3): augmenting row reduction.
+#![tactic(auto)]
+
 ghost use Rattle.std.specs.Prelude.{◌≡◌, ℕ, ◌+◌, ◌<◌, ◌-ℤ◌, length};
 ghost use Rattle.lapjv_walk.specs.Marks.{num_at};
 ghost use Rattle.lapint_walk.specs.Wholes.{wholes};
@@ -11,7 +13,7 @@ use lapjv_carr::{Turn, seat};
 use lapjv_walk::{free_at, index_of, is_free, mark};
 
 // The two best columns of a row and their reduced costs; j2 is -1 where there is one.
-#[derive(Drop)]
+#[derive(Clone, Copy)]
 pub struct Best {
     pub j1: usize,
     pub j2: i64,

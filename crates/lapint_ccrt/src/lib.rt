@@ -1,4 +1,6 @@
 // `ccrt_dense` over whole numbers (document 02, 2.3): column reduction, rows to columns, the rows left over.
+#![tactic(auto)]
+
 ghost use Rattle.std.specs.Prelude.{◌≡◌, true, ℕ, ◌≤◌, ◌<◌, pos, ◌-ℤ◌, length, set};
 ghost use Rattle.lists.specs.Lists.{tab};
 ghost use Rattle.lapjv_walk.specs.Marks.{free};

@@ -1,4 +1,6 @@
 // `find_path_dense` with `find_dense` and `scan_dense` over whole numbers (document 02, 2.3): the shortest way from a free row to a free column.
+#![tactic(auto)]
+
 ghost use Rattle.std.specs.Prelude.{◌≡◌, ℕ, ◌≤◌, ◌<◌, pos, ◌+ℤ◌, ◌-ℤ◌, length, set};
 ghost use Rattle.lapjv_walk.specs.Marks.{free};
 ghost use Rattle.lapint_walk.specs.Wholes.{wholes, eq_z};
@@ -68,7 +70,7 @@ fn find_dense(n: usize, lo: usize, d: &[i64], cols: &mut [usize]) -> usize
 }
 
 // Where a row's scan ended: the end of the columns at the least distance, and the free column found.
-#[derive(Drop)]
+#[derive(Clone, Copy)]
 pub struct Hit {
     pub hi: usize,
     pub found: i64,
@@ -115,7 +117,7 @@ fn scan_row(
 }
 
 // Where a scan or a search ended.
-#[derive(Drop)]
+#[derive(Clone, Copy)]
 pub struct Scanned {
     pub lo: usize,
     pub hi: usize,

@@ -1,5 +1,7 @@
 // The assignment's walk over whole numbers (document 02, 2.3): what a cheapest pairing is and why the walk gives one (specs/, proofs/); and what its steps read,
 // compare and write of costs and prices, for the crates of its phases.
+#![tactic(auto)]
+
 ghost use Rattle.std.specs.Prelude.{◌≡◌, ◌<◌, length, set};
 ghost use Rattle.std.specs.Int.Signed.{lt_z};
 ghost use Rattle.lapjv_walk.specs.Ops.{cost_at};

@@ -1,4 +1,6 @@
 // The Jonker-Volgenant assignment (lapjv.rs) on f64 costs: total, one to one, and within a bound of reads for any costs.
+#![tactic(auto)]
+
 ghost use Rattle.std.specs.Prelude.{◌≡◌, length};
 ghost use Rattle.lists.specs.Lists.{tab};
 ghost use Rattle.lapjv_walk.specs.Ops.{floats};
@@ -13,14 +15,14 @@ use lapjv_ccrt::ccrt_dense;
 use object::Refusal;
 
 // What a call is told: its rows and columns are paired, or why it was turned away.
-#[derive(Drop)]
+#[derive(Clone, Copy)]
 pub enum Assigned {
     Paired,
     Refused(Refusal),
 }
 
 // What a call is told, and how many cost entries it read, 0 where it was turned away (document 02, 2.12).
-#[derive(Drop)]
+#[derive(Clone, Copy)]
 pub struct Solved {
     pub answer: Assigned,
     pub reads: usize,

@@ -1,4 +1,6 @@
 // `ca_dense`: each row left over gets a column, along the shortest way to a free one.
+#![tactic(auto)]
+
 ghost use Rattle.std.specs.Prelude.{◌≡◌, false, ℕ, ◌≤◌, ◌<◌, length};
 ghost use Rattle.lapjv_walk.specs.Marks.{index, mark_at, num_at};
 ghost use Rattle.lapjv_walk.specs.Ops.{floats};

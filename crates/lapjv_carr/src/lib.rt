@@ -1,4 +1,6 @@
 // `carr_dence`: augmenting row reduction.
+#![tactic(auto)]
+
 ghost use Rattle.std.specs.Prelude.{◌≡◌, [], ℕ, ◌+◌, ◌≤◌, ◌<◌, length};
 ghost use Rattle.lapjv_walk.specs.Marks.{num_at};
 ghost use Rattle.lapjv_walk.specs.Ops.{floats};
@@ -11,7 +13,7 @@ use lapjv_walk::{Remaining, cost_at, free_at, index_at, index_of, is_free, mark,
 const LARGE: f64 = 1000000.0;
 
 // The two best columns of a row and their reduced costs; j2 is -1 where there is one.
-#[derive(Drop)]
+#[derive(Clone, Copy)]
 pub struct Best {
     pub j1: usize,
     pub j2: i64,
@@ -48,7 +50,7 @@ fn two_best(n: usize, cost: &[f64], i: usize, v: &[f64]) -> Best
 }
 
 // carr_dence's places in the rows: the next to reach, and the end of those kept.
-#[derive(Drop)]
+#[derive(Clone, Copy)]
 pub struct Turn {
     pub current: usize,
     pub fresh: usize,

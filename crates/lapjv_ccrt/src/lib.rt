@@ -1,4 +1,6 @@
 // `ccrt_dense`: column reduction, rows to columns, the rows left over.
+#![tactic(auto)]
+
 ghost use Rattle.std.specs.Prelude.{◌≡◌, true, ◌≤◌, ◌<◌, pos, length};
 ghost use Rattle.lists.specs.Lists.{tab};
 ghost use Rattle.lapjv_walk.specs.Marks.{free};

@@ -1,4 +1,6 @@
 // `find_path_dense` with `find_dense`: the shortest way from a free row to a free column.
+#![tactic(auto)]
+
 ghost use Rattle.std.specs.Prelude.{◌≡◌, ℕ, ◌≤◌, ◌<◌, pos, length};
 ghost use Rattle.lapjv_walk.specs.Marks.{free};
 ghost use Rattle.lapjv_walk.specs.Ops.{floats};
@@ -143,7 +145,7 @@ fn raise_prices(n: usize, lo: usize, d: &[f64], cols: &[usize], v: &mut [f64])
 }
 
 // The free column at the end of a way, and the costs read to find it.
-#[derive(Drop)]
+#[derive(Clone, Copy)]
 pub struct Way {
     pub last: usize,
     pub reads: usize,

@@ -1,4 +1,6 @@
 // `scan_dense`: from the columns at the least distance, their rows against the others.
+#![tactic(auto)]
+
 ghost use Rattle.std.specs.Prelude.{◌≡◌, ℕ, ◌≤◌, ◌<◌, length};
 ghost use Rattle.lapjv_walk.specs.Marks.{free};
 ghost use Rattle.lapjv_walk.specs.Ops.{floats};
@@ -9,7 +11,7 @@ ghost use Rattle.lapjv_walk.specs.Holds.{Square, Apart, Marked, Held};
 use lapjv_walk::{cost_at, free_at, index_at, is_free, mark};
 
 // Where a row's scan ended: the end of the columns at the least distance, the free column found, and the costs read.
-#[derive(Drop)]
+#[derive(Clone, Copy)]
 pub struct Hit {
     pub hi: usize,
     pub found: i64,
@@ -66,7 +68,7 @@ fn scan_row(
 }
 
 // Where a scan or a search ended, and the costs read.
-#[derive(Drop)]
+#[derive(Clone, Copy)]
 pub struct Scanned {
     pub lo: usize,
     pub hi: usize,

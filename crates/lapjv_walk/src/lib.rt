@@ -1,11 +1,13 @@
 // The assignment's walk, as definitions and laws (specs/, proofs/); and the marks and costs that its steps read, for the crates of its phases.
+#![tactic(auto)]
+
 ghost use Rattle.std.specs.Prelude.{◌≡◌, false, ◌<◌, pos, length, set};
 ghost use Rattle.lapjv_walk.specs.Marks.{free, is_free, index, mark_at};
 ghost use Rattle.lapjv_walk.specs.Ops.{floats, cost_at};
 ghost use Rattle.lapjv_walk.specs.Holds.{Square};
 
 // What a step leaves: so many rows without a column; and how many costs it read (document 02, 2.12).
-#[derive(Drop)]
+#[derive(Clone, Copy)]
 pub struct Remaining {
     pub count: usize,
     pub reads: usize,

@@ -1,10 +1,12 @@
 // The frame call on a lent tracker: document 01, item 6.
+#![tactic(auto)]
+
 ghost use Rattle.frame.specs.Contract.{Framed};
 
 use frame::{Outcome, Tracker};
 
 // What a frame call tells beside the tracker: its outcome, and how many reports stand in the buffers.
-#[derive(Drop)]
+#[derive(Clone, Copy)]
 pub struct Told {
     pub outcome: Outcome,
     pub count: usize,

@@ -1,5 +1,7 @@
 // Which object goes to which track, as document 01's items 3 and 6 have it (assoc.rs): the definitions, and what the crates that meet them share.
 // Objects are lent as five numbers each (corners and score), boxes as four, directions as two (dy, dx). Matrices are lent row after row, an object each.
+#![tactic(auto)]
+
 ghost use Rattle.std.specs.Prelude.{◌≡◌, ◌+◌, ◌*◌, ◌≤◌, ◌<◌, length, replicate};
 ghost use Rattle.std.proofs.lemmas.List.Edits.{sets};
 ghost use Rattle.lapjv_walk.specs.Marks.{free};
@@ -62,7 +64,7 @@ pub fn put_corners(cells: &mut [f32], j: usize, b: Corners)
 // ---- marks
 
 // For each object its track's index, or -1; cells past the objects are -1.
-#[derive(Drop)]
+#[derive(Clone, Copy)]
 pub struct Marks {
     pub at: [i64; 64],
 }

@@ -1,4 +1,6 @@
 // Matrices of f32 on lent slices, row after row: product, sum, difference and transpose, the stand-ins of document 01 for the Rust's matrices. The inverse is crate `inverse`.
+#![tactic(auto)]
+
 ghost use Rattle.std.specs.Prelude.{◌≡◌, ◌+◌, ◌*◌, ◌≤◌, ◌<◌, length, get_or};
 ghost use Rattle.std.specs.Float.{nan, binary32};
 ghost use Rattle.std.specs.Float.Ieee.{add, mul};

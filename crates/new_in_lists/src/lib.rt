@@ -1,4 +1,6 @@
 // Making a tracker in place: its image is written to the lists that the caller lends.
+#![tactic(auto)]
+
 ghost use Rattle.std.specs.Prelude.{◌≡◌};
 ghost use Rattle.image.specs.Image.{image_of};
 ghost use Rattle.frame.specs.Contract.{told_of, made_of};
@@ -9,7 +11,7 @@ use frame::{Made, Outcome, Settings};
 
 // The seven settings as C and Rust pass them; use_byte is 0 or 1.
 #[repr(C)]
-#[derive(Drop)]
+#[derive(Clone, Copy)]
 pub struct SettingsImage {
     pub det_thresh: f32,
     pub iou_threshold: f32,

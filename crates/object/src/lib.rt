@@ -1,10 +1,12 @@
 // Rectangles, objects and refusals: rect.rs, object.rs and error.rs as far as OC-SORT uses them.
+#![tactic(auto)]
+
 ghost use Rattle.std.specs.Prelude.{◌≡◌};
 ghost use Rattle.object.specs.Object.{xyxy_of, rect_of};
 ghost use Rattle.object.specs.Refusal.{number_of};
 
 // Left upper corner, width and height.
-#[derive(Drop)]
+#[derive(Clone, Copy)]
 pub struct Rect {
     pub x: f32,
     pub y: f32,
@@ -41,7 +43,7 @@ impl Rect {
 }
 
 // The corners of a box.
-#[derive(Drop)]
+#[derive(Clone, Copy)]
 pub struct Corners {
     pub x1: f32,
     pub y1: f32,
@@ -50,7 +52,7 @@ pub struct Corners {
 }
 
 // An object as the tracker takes it in: its corners and its score.
-#[derive(Drop)]
+#[derive(Clone, Copy)]
 pub struct Detection {
     pub x1: f32,
     pub y1: f32,
@@ -60,7 +62,7 @@ pub struct Detection {
 }
 
 // A rectangle and its score.
-#[derive(Drop)]
+#[derive(Clone, Copy)]
 pub struct Object {
     pub rect: Rect,
     pub prob: f32,
@@ -88,7 +90,7 @@ impl Object {
 }
 
 // Why a call was turned away.
-#[derive(Drop)]
+#[derive(Clone, Copy)]
 pub enum Refusal {
     // A state rule is broken.
     UnsoundState,

@@ -1,4 +1,6 @@
 // The tracker on a state by value: oc_sort_tracker.rs, document 01, item 6.
+#![tactic(auto)]
+
 ghost use Rattle.std.specs.Prelude.{◌≡◌, true};
 ghost use Rattle.std.proofs.Math.Option.{none};
 ghost use Rattle.frame.specs.State.{empty_tracker, state_rules};

@@ -1,4 +1,6 @@
 // One track through a frame: predicted, given its box or a miss, born, young or aged out. Document 01, item 6.
+#![tactic(auto)]
+
 ghost use Rattle.std.specs.Prelude.{◌≡◌, true, ◌+◌, ◌≤◌, ◌<◌};
 ghost use Rattle.frame.specs.State.{blank};
 ghost use Rattle.frame.specs.Frame.{has_nan, predict_tracked, unbroken, is_young};

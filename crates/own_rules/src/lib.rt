@@ -1,4 +1,6 @@
 // The state rules that speak of one track alone, tested: document 01, 'State rules', and document 02, 2.5.
+#![tactic(auto)]
+
 ghost use Rattle.std.specs.Prelude.{◌≡◌};
 ghost use Rattle.strack.specs.declared.ListBox.TheVariants.{Holds};
 ghost use Rattle.strack.specs.Track.{list_entry};

@@ -1,4 +1,6 @@
 // One object and one track: their overlap, and the parts of the angle term. assoc.rs, document 01, item 3.
+#![tactic(auto)]
+
 ghost use Rattle.std.specs.Prelude.{◌≡◌};
 ghost use Rattle.pair.specs.Overlap.{area_of, side_of, inter_of, overlap_of};
 ghost use Rattle.pair.specs.Angle.{centre_of, unit_of, angle_of, cosine_of, mask_of, term_of};

@@ -1,10 +1,12 @@
 // The lines that make a tracker and give it frames, answered by the tracker itself.
+#![tactic(auto)]
+
 use frame::{Answer, Outcome, Tracker};
 use image::TrackerImage;
 
 // Where the answer ends, whether a tracker is held after it, and its image. A line that can't be read has `good` false, and leaves
 // what was held.
-#[derive(Drop)]
+#[derive(Clone, Copy)]
 pub struct Told {
     pub good: bool,
     pub at: usize,
@@ -61,7 +63,7 @@ const BOX: f32 = 13323083.0;
 const ID: u64 = 0x5A5A_5A5A_5A5A_5A5A;
 
 // A frame that was read: the lengths of the buffers to lend, how many numbers it has, and the numbers, as far as there is room.
-#[derive(Drop)]
+#[derive(Clone, Copy)]
 struct Asked {
     good: bool,
     boxes: usize,
@@ -123,7 +125,7 @@ fn is_box_kept(boxes: &[f32], i: usize) -> bool {
 }
 
 // What a frame left: the outcome's number, the count of reports, the buffers, whether a cell changed that must not, and the tracker.
-#[derive(Drop)]
+#[derive(Clone, Copy)]
 struct Left {
     number: u64,
     count: usize,

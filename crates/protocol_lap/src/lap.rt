@@ -4,7 +4,7 @@ ghost use Rattle.std.specs.Prelude.{◌≤◌};
 use protocol_words::{Answer, within};
 
 // The size, the lists' lengths, and where the costs begin.
-#[derive(Drop)]
+#[derive(Clone, Copy)]
 pub struct Asked {
     pub good: bool,
     pub n: usize,
@@ -31,7 +31,7 @@ pub fn sizes(line: &[u8], letters: usize) -> Asked
 
 // The number that the call was told, how many costs it read, where the line asks for it, and the marks of n rows and columns, if
 // the line is good.
-#[derive(Drop)]
+#[derive(Clone, Copy)]
 pub struct Pairs {
     pub good: bool,
     pub told: u64,

@@ -1,5 +1,7 @@
 // Answers to the comparison's lines that ask for an assignment, by f64 costs, with the costs read (document 02, 2.12) or without, and
 // by whole ones (2.3). A line is read and worked on by value, and then its answer is put.
+#![tactic(auto)]
+
 mod lap;
 mod whole_lap;
 

@@ -1,7 +1,8 @@
 // Lines of marks, which say for each index of one list the index of another, or that it has none.
+#![tactic(auto)]
 
 // A mark: whether it is an index, and which.
-#[derive(Drop)]
+#[derive(Clone, Copy)]
 struct Mark {
     is: bool,
     index: u64,
@@ -41,7 +42,7 @@ fn is_taken(marks: &[i64], count: usize, index: usize) -> bool {
 }
 
 // What is shown of an index: nothing, or a number, and behind a comma another.
-#[derive(Drop)]
+#[derive(Clone, Copy)]
 struct Shown {
     one: bool,
     first: u64,

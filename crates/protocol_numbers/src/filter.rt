@@ -8,7 +8,7 @@ use kalman_filter::{DetectBox, Filter};
 use protocol_words::{Answer, Word};
 
 // A filter after its step, if the line is good.
-#[derive(Drop)]
+#[derive(Clone, Copy)]
 pub struct Filtered {
     pub good: bool,
     pub filter: Filter,

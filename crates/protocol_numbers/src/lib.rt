@@ -1,5 +1,7 @@
 // Answers to the comparison's lines on numbers: the float functions, boxes, matrices and the filter's steps. A line is read and worked
 // on by value, and then its answer is put.
+#![tactic(auto)]
+
 mod filter;
 mod number;
 mod product;

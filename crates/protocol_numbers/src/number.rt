@@ -7,7 +7,7 @@ use protocol_words::Answer;
 use strack::Direction;
 
 // A row of numbers: whether it is good, how many, and those for which there is room.
-#[derive(Drop)]
+#[derive(Clone, Copy)]
 pub struct Row {
     pub good: bool,
     pub count: usize,

@@ -5,7 +5,7 @@ ghost use Rattle.matrix.specs.Matrix.{Fit};
 use protocol_words::{Answer, size_of};
 
 // A product, if it is good: the first so many of these numbers.
-#[derive(Drop)]
+#[derive(Clone, Copy)]
 pub struct Product {
     pub good: bool,
     pub count: usize,

@@ -5,7 +5,7 @@ use matching::Marks;
 use protocol_words::{Answer, size_of};
 
 // How many objects and tracks, and the objects' marks, if the line is good.
-#[derive(Drop)]
+#[derive(Clone, Copy)]
 pub struct Associated {
     pub good: bool,
     pub objects: usize,

@@ -3,7 +3,7 @@ use protocol_words::Answer;
 use shortcut_counts::Tally;
 
 // Both figures, if the line is good.
-#[derive(Drop)]
+#[derive(Clone, Copy)]
 pub struct SizeLine {
     pub good: bool,
     pub tally: Tally,

@@ -1,5 +1,7 @@
 // Answers to the comparison's lines that pair: objects with tracks, how often their shortcut runs, and by an assignment. A line is read and
 // worked on by value, and then its answer is put.
+#![tactic(auto)]
+
 mod associate;
 mod counts;
 

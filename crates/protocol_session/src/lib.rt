@@ -1,11 +1,13 @@
 // The answer to a line of the comparison with the original, and the tracker that is held after it.
+#![tactic(auto)]
+
 use protocol_frames::Told;
 use protocol_states::Loading;
 use protocol_words::Answer;
 use protocol_words::faults::{Fault, put_error};
 
 // The tracker that is held, if one is, or the one whose lines are still coming.
-#[derive(Drop)]
+#[derive(Clone, Copy)]
 pub struct Session {
     pub held: bool,
     pub loading: bool,
@@ -13,7 +15,7 @@ pub struct Session {
 }
 
 // Where an answer ends, and what is held after it.
-#[derive(Drop)]
+#[derive(Clone, Copy)]
 pub struct Reply {
     pub at: usize,
     pub session: Session,

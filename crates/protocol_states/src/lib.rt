@@ -1,5 +1,7 @@
 // The text of a tracker's whole state, by which it is compared with the original's: put line by line from the lists of its image
 // (crate `image`), hashed, and read back into such lists.
+#![tactic(auto)]
+
 mod load;
 
 ghost use Rattle.std.specs.Prelude.{◌+◌, ◌<◌, ◌≤◌};
@@ -12,7 +14,7 @@ pub use load::{Given, Loading, begin, is_whole, settings, take};
 const LINES: usize = 16;
 
 // Where the numbers of a line start among a track's, and how many they are.
-#[derive(Drop)]
+#[derive(Clone, Copy)]
 struct Part {
     from: usize,
     n: usize,

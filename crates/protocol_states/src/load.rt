@@ -6,7 +6,7 @@ use frame::Settings;
 use image::TrackerImage;
 
 // A state of which some lines have come: the track whose lines come next, and which of them; LINES is its first line, or the end.
-#[derive(Drop)]
+#[derive(Clone, Copy)]
 pub struct Loading {
     pub good: bool,
     pub index: usize,
@@ -15,7 +15,7 @@ pub struct Loading {
 }
 
 // Settings that were read, and where they end.
-#[derive(Drop)]
+#[derive(Clone, Copy)]
 pub struct Given {
     pub good: bool,
     pub end: usize,
@@ -88,7 +88,7 @@ pub fn begin(line: &[u8]) -> Loading {
 }
 
 // A track's first line that was read: id, age, streak, frames since update, frozen.
-#[derive(Drop)]
+#[derive(Clone, Copy)]
 struct Head {
     good: bool,
     id: u64,
@@ -117,7 +117,7 @@ fn read_head(text: &[u8]) -> Head {
 }
 
 // A state with one more line, and whether the line was good.
-#[derive(Drop)]
+#[derive(Clone, Copy)]
 struct Read {
     good: bool,
     image: TrackerImage,

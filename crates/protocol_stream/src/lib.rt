@@ -1,5 +1,7 @@
 // The lines of the comparison with the original, answered one after another from standard input to standard output until the input
 // ends: the programs `replay` and `check_edges` are this on their own lines.
+#![tactic(auto)]
+
 use libc::{STDIN_FILENO, STDOUT_FILENO};
 use protocol_session::{Reply, Session};
 use protocol_words::faults::Fault;
@@ -10,7 +12,7 @@ const LINE: usize = 131072;
 const ANSWER: usize = 131072;
 
 // What has been read and not yet taken, what waits to be written, and the number of the next line.
-#[derive(Drop)]
+#[derive(Clone, Copy)]
 struct Stream {
     at: usize,
     end: usize,
@@ -20,7 +22,7 @@ struct Stream {
 }
 
 // A line that was taken, its length, and whether it fits its buffer. At the end of the input there may be none.
-#[derive(Drop)]
+#[derive(Clone, Copy)]
 struct Taken {
     stream: Stream,
     is_line: bool,
@@ -110,7 +112,7 @@ fn put_answer(
 }
 
 // The stream and the session behind a line.
-#[derive(Drop)]
+#[derive(Clone, Copy)]
 struct Step {
     stream: Stream,
     session: Session,

@@ -1,4 +1,6 @@
 // Signed whole numbers in decimal, from -2^63 to 2^63 - 1, as the comparison's lines have them.
+#![tactic(auto)]
+
 use protocol_words::{Count, byte_at, next, or_blank};
 
 // A number of that size and sign; of a larger size its low bits.
@@ -17,7 +19,7 @@ fn is_held(minus: bool, size: u64) -> bool {
 }
 
 // The number behind the blank at `at`, 0 where there is none.
-#[derive(Drop)]
+#[derive(Clone, Copy)]
 struct Whole {
     good: bool,
     value: i64,

@@ -1,5 +1,5 @@
 // What a line gets that has no answer.
-#[derive(Drop)]
+#[derive(Clone, Copy)]
 pub enum Fault {
     BadNumbers,
     NoSuchLine,

@@ -1,12 +1,14 @@
 // The words of a line by which the module is compared with the original: bit patterns in hexadecimal and whole numbers in decimal,
 // read from a lent line and put into a lent answer. Reading never goes past the line and writing never past the answer.
+#![tactic(auto)]
+
 pub mod faults;
 
 ghost use Rattle.std.specs.Prelude.{◌≡◌, ◌<◌, ◌≤◌, from_bits};
 ghost use Rattle.std.specs.Float.{binary32, binary64};
 
 // Where the answer to a line ends, or why there is none.
-#[derive(Drop)]
+#[derive(Clone, Copy)]
 pub enum Answer {
     Ends(usize),
     // The words behind the first are not what it asks for.
@@ -16,7 +18,7 @@ pub enum Answer {
 }
 
 // A word that was read: where it ends, and its number. A word that is none has `good` false.
-#[derive(Drop)]
+#[derive(Clone, Copy)]
 pub struct Word {
     pub good: bool,
     pub value: u64,
@@ -109,7 +111,7 @@ pub fn within(n: u64, most: usize) -> usize
 }
 
 // A whole number that was read, if it is at most so many.
-#[derive(Drop)]
+#[derive(Clone, Copy)]
 pub struct Size {
     pub good: bool,
     pub n: usize,
@@ -146,7 +148,7 @@ pub fn f64_of(b: u64) -> f64
 }
 
 // The f32 behind the blank at `at`, 0 where there is none.
-#[derive(Drop)]
+#[derive(Clone, Copy)]
 pub struct F32Word {
     pub good: bool,
     pub value: f32,
@@ -168,7 +170,7 @@ pub fn low(x: u64) -> u32 {
 }
 
 // How many numbers were read, and whether all were good. Numbers for which there is no room are counted and left out.
-#[derive(Drop)]
+#[derive(Clone, Copy)]
 pub struct Count {
     pub good: bool,
     pub n: usize,

@@ -1,4 +1,6 @@
 // A frame's reports, written to the answer's buffers: document 01, item 6.
+#![tactic(auto)]
+
 ghost use Rattle.std.specs.Prelude.{◌≡◌, true, ◌+◌, ◌*◌, ◌≤◌, ◌<◌, length, set};
 ghost use Rattle.lists.specs.Lists.{pick, every};
 ghost use Rattle.frame.specs.Frame.{shown_box, report_of, is_reported, reports_of};

@@ -1,4 +1,6 @@
 // Square roots of whole numbers, below 2^48: the whole number nearest to the root, and an estimate of it to start from. Crate `ieee` takes the root of an f32 by them.
+#![tactic(auto)]
+
 ghost use Rattle.std.specs.Prelude.{◌≡◌, ◌^◌, ◌<◌};
 ghost use Rattle.roots.specs.Roots.{IsRoot, nearest_root};
 

@@ -1,4 +1,6 @@
 // Document 02, 2.8: in which frames the order of the rounds makes a difference.
+#![tactic(auto)]
+
 ghost use Rattle.round_order.specs.Order.{OrdersAgree};
 ghost use Rattle.round_order.specs.Example.{OrdersDiffer};
 

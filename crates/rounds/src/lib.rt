@@ -1,4 +1,6 @@
 // The rounds that pair a frame's objects with the tracks: document 01, item 6, in the order of document 02, 2.8.
+#![tactic(auto)]
+
 ghost use Rattle.std.specs.Prelude.{◌≡◌, List, map, ◌≤◌, length, take};
 ghost use Rattle.lists.specs.Lists.{All};
 ghost use Rattle.frame.specs.Objects.{Obj, objects_of};
@@ -17,7 +19,7 @@ use strack::Kept;
 use views::Views;
 
 // What each track was granted, and the first-class objects that no round paired.
-#[derive(Drop)]
+#[derive(Clone, Copy)]
 pub struct Pairing {
     pub grants: [Kept; 64],
     pub left: Dets,

@@ -1,4 +1,6 @@
 // What a call may be told, tested: document 01, 'What a call may be told'.
+#![tactic(auto)]
+
 ghost use Rattle.std.specs.Prelude.{◌≡◌, ◌≤◌};
 ghost use Rattle.frame.specs.State.{unit_range, in_range, live, state_rules};
 ghost use Rattle.rules.specs.Rules.{total_rules, sound_at, sound_from, Told};

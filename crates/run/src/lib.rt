@@ -1,4 +1,6 @@
 // The claim about every list of calls.
+#![tactic(auto)]
+
 ghost use Rattle.run.specs.Run.{EveryRun};
 
 // Does nothing, and ensures the claim.

@@ -1,4 +1,6 @@
 // What C and Rust link: the tracker's calls over the image of a state, which the caller holds in three lists of numbers.
+#![tactic(auto)]
+
 ghost use Rattle.std.specs.Prelude.{◌≡◌};
 ghost use Rattle.image.specs.Image.{image_of};
 ghost use Rattle.frame.specs.Contract.{made_of};
@@ -63,7 +65,7 @@ pub extern "C" fn satinjacks_new_lists(
 
 // The refusal's number, or 0, and how many cost entries were read (document 02, 2.12).
 #[repr(C)]
-#[derive(Drop)]
+#[derive(Clone, Copy)]
 pub struct AssignReply {
     pub number: u64,
     pub reads: usize,

@@ -1,4 +1,6 @@
 // A frame once its pairs are known: boxes and misses, births, reports, ageing. Document 01, item 6.
+#![tactic(auto)]
+
 ghost use Rattle.std.specs.Prelude.{length};
 ghost use Rattle.settling.specs.Settled.{Answered, joined, settled_on, Ready};
 

@@ -1,5 +1,7 @@
 // What is read from the overlaps above the threshold: whether the shortcut stands, its marks, and whether a later round starts. assoc.rs, document 01,
 // items 3 and 6.
+#![tactic(auto)]
+
 ghost use Rattle.std.specs.Prelude.{◌≡◌, ◌++◌, ◌+◌, ◌-◌, ◌*◌, ◌≤◌, ◌<◌, pos, length, replicate};
 ghost use Rattle.lists.specs.Lists.{pick, tab};
 ghost use Rattle.lapjv_walk.specs.Marks.{free};

@@ -1,11 +1,13 @@
 // How often the shortcut of `match_or_lapjv` runs: document 02, 2.14.
+#![tactic(auto)]
+
 ghost use Rattle.std.specs.Prelude.{◌≡◌, ◌+◌, ◌*◌, ◌^◌, ◌<◌, ◌≤◌};
 ghost use Rattle.shortcut_counts.specs.Counted.{is_small, Counted, EachOnce, AllSizes};
 ghost use Rattle.shortcut_counts.specs.Placements.{placements};
 
 // Of all patterns of a size, those that take the shortcut and those that go to the assignment.
 #[repr(C)]
-#[derive(Drop)]
+#[derive(Clone, Copy)]
 pub struct Tally {
     pub shortcut: u64,
     pub assignment: u64,

@@ -1,4 +1,6 @@
 // One track, beside its id: strack.rs, document 01, item 5.
+#![tactic(auto)]
+
 ghost use Rattle.std.specs.Prelude.{◌≡◌, ◌+◌, ◌≤◌, ◌<◌};
 ghost use Rattle.object.specs.Object.{corners_of};
 ghost use Rattle.strack.specs.Boxes.{measure_of, box_of, direction_of};
@@ -8,34 +10,34 @@ use kalman_filter::{DetectBox, Filter};
 use object::{Corners, Detection};
 
 // The last box a track was given: x1, y1, x2, y2 and score.
-#[derive(Drop)]
+#[derive(Clone, Copy)]
 pub enum LastBox {
     Unseen,
     Seen(f32, f32, f32, f32, f32),
 }
 
 // The last box in `history_obs`, as measured.
-#[derive(Drop)]
+#[derive(Clone, Copy)]
 pub enum ListBox {
     Empty,
     Holds(DetectBox),
 }
 
 // Where a track is heading: dy and dx.
-#[derive(Drop)]
+#[derive(Clone, Copy)]
 pub enum Direction {
     Unknown,
     Known(f32, f32),
 }
 
 // The box at one of the last eight ages.
-#[derive(Drop)]
+#[derive(Clone, Copy)]
 pub struct Kept {
     pub at: LastBox,
 }
 
 // What a track's own boxes settle.
-#[derive(Drop)]
+#[derive(Clone, Copy)]
 pub struct Track {
     pub filter: Filter,
     // the filter as it was at the first miss, while frozen

@@ -1,5 +1,7 @@
 // The pairs that the threshold keeps, of those that a round found: document 01, item 3, and item 6's later rounds.
 // Overlaps are lent row after row, an object each, as many numbers a row as there are tracks.
+#![tactic(auto)]
+
 ghost use Rattle.std.specs.Prelude.{◌≡◌, false, not, ◌&&◌, ◌++◌, ℕ, ◌+◌, ◌-◌, ◌*◌, ◌≤◌, ◌<◌, pos, length, take, replicate};
 ghost use Rattle.std.specs.Float.Ieee.{lt, le};
 ghost use Rattle.lists.specs.Lists.{pick};

@@ -1,5 +1,7 @@
 // The table of tracks on its way through a frame: predicted, given boxes or misses, joined by the newborn, aged. Document 01, item 6.
 // Each loop writes its table in place: a table passed by value is copied whole.
+#![tactic(auto)]
+
 ghost use Rattle.std.specs.Prelude.{◌≡◌, true, [], ◌++◌, ◌+◌, ◌≤◌};
 ghost use Rattle.lists.specs.Lists.{keep, every};
 ghost use Rattle.frame.specs.State.{live, state_rules};
@@ -13,7 +15,7 @@ use frame::{Settings, Tracked, Tracker};
 use strack::Kept;
 
 // Up to 64 tracks in birth order; cells past them are blank.
-#[derive(Drop)]
+#[derive(Clone, Copy)]
 pub struct Tracks {
     pub count: usize,
     pub table: [Tracked; 64],

@@ -1,11 +1,13 @@
 // One frame, in place on the lists of an image.
+#![tactic(auto)]
+
 ghost use Rattle.std.specs.Prelude.{◌≡◌};
 ghost use Rattle.image.specs.Image.{image_of};
 ghost use Rattle.update_in_lists.specs.Host.{Hosted};
 
 // The refusal's number, or 0, and how many reports stand in the buffers.
 #[repr(C)]
-#[derive(Drop)]
+#[derive(Clone, Copy)]
 pub struct Reply {
     pub number: u64,
     pub count: usize,

@@ -1,4 +1,6 @@
 // What the rounds see of the tracks, in flat arrays as `assoc` takes them.
+#![tactic(auto)]
+
 ghost use Rattle.std.specs.Prelude.{◌≡◌, map, ◌+◌, ◌*◌, ◌≤◌, ◌<◌, length, take};
 ghost use Rattle.std.proofs.lemmas.List.Edits.{sets};
 ghost use Rattle.detections.specs.Dets.{five_of};
@@ -12,7 +14,7 @@ use object::Detection;
 use strack::{Direction, LastBox};
 
 // For each of n tracks its predicted box, its direction, its last box and its previous box. Cells past them are NaN.
-#[derive(Drop)]
+#[derive(Clone, Copy)]
 pub struct Views {
     pub n: usize,
     pub boxes: [f32; 256],

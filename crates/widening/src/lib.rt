@@ -1,10 +1,12 @@
 // f32 to f64, class by class: document 02, 2.10. The classes and the fields of a pattern are those of IEEE 754-2019, 3.4.
+#![tactic(auto)]
+
 ghost use Rattle.std.specs.Prelude.{◌≡◌, ◌+◌, ◌*◌, ◌^◌, ◌≤◌, ◌<◌};
 ghost use Rattle.std.specs.Float.{binary32, binary64};
 ghost use Rattle.std.specs.Float.Ieee.{of_bits, to_bits};
 ghost use Rattle.widening.specs.Classes.{sign_bit, biased_exponent, trailing_significand, ClassOf, ByClass};
 
-#[derive(Drop)]
+#[derive(Clone, Copy)]
 pub enum Class {
     Zero,
     Subnormal,

@@ -1,0 +1,13 @@
+-- `roots::whole_root` meets its contract. The invariant: lo's square is within a and hi's is above it; the measure is hi - lo.
+use mathlib.Core.Path.{subst}
+use Prim.Native.Nat.{ℕ, ◌-◌, ◌*◌, ◌^◌, ◌≤◌, ◌<◌}
+use native.Mathlib.Omega.{arith}
+use Rattle.roots.specs.Roots.{IsRoot}
+use Rattle.roots.proofs.Roots.{square-fits}
+use Rattle.roots.proofs.whole_root.Given as goal
+
+abbrev pub invariant-loop-hi : goal.invariant-loop-hi
+invariant-loop-hi l = (l.lo < l.hi) × (l.hi ≤ 2 ^ 24) × (l.lo * l.lo ≤ l.a) × (l.a < l.hi * l.hi)
+
+abbrev pub decreases-loop-hi : goal.decreases-loop-hi
+decreases-loop-hi l = l.hi - l.lo
