@@ -50,10 +50,10 @@ pub overflow_sub-root : goal.overflow_sub-root
 overflow_sub-root c = omega (arith, bent (u-of c) (small c))
 
 pub overflow_mul-result : goal.overflow_mul-result
-overflow_mul-result c = omega (arith, scaled c.step_root.result (u-of c) (omega arith) (small c))
+overflow_mul-result c = omega (arith, scaled c.step_root.result (u-of c.before) (omega arith) (small c.before))
 
 pub overflow_add-result : goal.overflow_add-result
-overflow_add-result c = omega (arith, scaled c.step_root.result (u-of c) (omega arith) (small c))
+overflow_add-result c = omega (arith, scaled c.step_root.result (u-of c.before) (omega arith) (small c.before))
 
 pub returns : goal.returns
-returns c = omega (arith, scaled c.step_root.result (u-of c) (omega arith) (small c))
+returns c = omega (arith, scaled c.step_root.result (u-of c.before) (omega arith) (small c.before))

@@ -1,0 +1,20 @@
+-- `matrix::row_first` meets its contract.
+use borrow.Author.Rules.{rules}
+use Prim.Native.Nat.{◌-◌}
+use mathlib.Core.Path.{refl}
+use lib.Ieee.{nan, mul, binary32}
+use lib.ListN.{length, get_or}
+use Rattle.lists.proofs.Fill.{Filled, filled_none, filled_more, filled-all}
+use Rattle.matrix.proofs.row_first.Goals as goal
+
+pub loop-j-init : goal.loop-j-init
+loop-j-init c = filled_none _ _
+
+pub loop-j-preserved : goal.loop-j-preserved
+loop-j-preserved c = filled_more _ _ _ _ _ c.loop-j.invariant (search rules) refl
+
+pub shape_of-out : goal.shape_of-out
+shape_of-out c = c.loop-j.invariant.same
+
+pub returns : goal.returns
+returns c = filled-all _ _ _ _ c.loop-j.invariant (search rules)

@@ -1,0 +1,22 @@
+-- `matrix::sum` meets its contract.
+use borrow.Author.Rules.{rules}
+use Prim.Native.Nat.{◌-◌}
+use mathlib.Core.Path.{refl}
+use lib.Ieee.{nan, add, binary32}
+use lib.ListN.{length, get_or}
+use Rattle.lists.proofs.Fill.{Filled, filled_none, filled_more, filled-all}
+use Rattle.matrix.specs.Matrix.{sum}
+use Rattle.matrix.proofs.sum.Goals as goal
+
+pub loop-q-init : goal.loop-q-init
+loop-q-init c = filled_none _ _
+
+pub loop-q-preserved : goal.loop-q-preserved
+loop-q-preserved c = filled_more _ _ _ _ _ c.loop-q.invariant (search rules) refl
+
+pub shape_of-out : goal.shape_of-out
+shape_of-out c = c.loop-q.invariant.same
+
+pub returns : goal.returns
+unfolding sum
+returns c = filled-all _ _ _ _ c.loop-q.invariant (search rules)
