@@ -30,7 +30,10 @@ pub offset_bounds-a-i : goal.offset_bounds-a-i
 offset_bounds-a-i c = omega (arith, place c)
 
 pub bounds-a-i : goal.bounds-a-i
-bounds-a-i c = place c.before.before
+bounds-a-i c =
+    let a = c.args in
+    let h : c.loop-i.i < length a.out.now = omega (arith, c.loop-i-test.true, c.loop-i.invariant.same) in
+    omega (arith, in-matrix (length a.out.now) a.m c.loop-i.i a.j h c.requires.0, c.requires.1)
 
 pub loop-i-preserved : goal.loop-i-preserved
 loop-i-preserved c = filled_more _ _ _ _ _ c.loop-i.invariant (search rules) refl

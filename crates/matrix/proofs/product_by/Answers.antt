@@ -29,7 +29,7 @@ loop-i-init c = (refl, (search rules, rw zero-mul (filled_none _ _)))
 
 pub row-requires : goal.row-requires
 row-requires c =
-    let s = c.before in
+    let s = c.before.before.before.before.before.before.before in
     let l = c.loop-i in
     (s.requires.inner, (omega (arith, row_inside s.args.n s.args.k l.i c.loop-i-test.true, s.requires.left), s.requires.right ∙ ap (λ (x : ℕ). s.args.k * x) (sym l.invariant.0)))
 
@@ -47,20 +47,20 @@ slice_bounds-copy-end c = omega (arith, row-of-out c.before.before.before.before
 
 pub copy-requires : goal.copy-requires
 copy-requires c =
-    let s = c.before in
+    let s = c.before.before.before.before.before.before.before.before.before.before.before.before in
     let l = c.loop-i in
-    (ap length c.row.ensures ∙ (length-tab _ _ ∙ l.invariant.0)) ∙ sym (part_length l.out l.i (width s.before.before.before.before.before.before.before.before.before.before.before) (omega (arith, row-of-out s.before.before.before.before.before.before.before.before.before.before.before l.i c.loop-i-test.true, l.invariant.1.1.same)))
+    (ap length c.row.ensures ∙ (length-tab _ _ ∙ l.invariant.0)) ∙ sym (part_length l.out l.i (width s) (omega (arith, row-of-out s l.i c.loop-i-test.true, l.invariant.1.1.same)))
 
 pub loop-i-preserved : goal.loop-i-preserved
 loop-i-preserved c =
-    let s = c.before in
+    let s = c.before.before.before.before.before.before.before.before.before.before.before.before.before.before.before in
     let l = c.loop-i in
     let h = c.loop-i-test.true in
     let r = c.row.ensures ∙ ap (λ (x : ℕ). tab (entry_of s.args.k x s.args.a.now s.args.b.now l.i) x) l.invariant.0 in (
       ap length r ∙ length-tab _ _,
       (
         search rules,
-        filled_row (entries s.before.before.before.before.before.before.before.before.before.before.before.before.before.before) s.args.out.now l.out _ l.i (width s.before.before.before.before.before.before.before.before.before.before.before.before.before.before) (l.i * width s.before.before.before.before.before.before.before.before.before.before.before.before.before.before + width s.before.before.before.before.before.before.before.before.before.before.before.before.before.before - l.i * width s.before.before.before.before.before.before.before.before.before.before.before.before.before.before) (add-sub_cancel_left (l.i * width s.before.before.before.before.before.before.before.before.before.before.before.before.before.before) (width s)) l.invariant.1.1 (row-of-out s l.i h)
+        filled_row (entries s) s.args.out.now l.out _ l.i (width s) (l.i * width s + width s - l.i * width s) (add-sub_cancel_left (l.i * width s) (width s)) l.invariant.1.1 (row-of-out s l.i h)
             (c.copy.ensures ∙ (r ∙ row-places s.args.k (width s) s.args.a.now s.args.b.now l.i)),
       ),
     )
@@ -74,7 +74,7 @@ shape_of-acc c = c.loop-i.invariant.0
 pub returns : goal.returns
 unfolding product
 returns c =
-    let s = c.before in
+    let s = c.before.before.before.before.before.before in
     let l = c.loop-i in
     let e : l.i ≡ s.args.n = omega arith in
-    filled-all _ _ _ _ l.invariant.1.1 (omega (arith, l.invariant.1.1.same, s.requires.room, ap (λ (x : ℕ). x * width s.before.before.before.before.before.before) e)) ∙ ap (tab (entries s.before.before.before.before.before.before)) s.requires.room
+    filled-all _ _ _ _ l.invariant.1.1 (omega (arith, l.invariant.1.1.same, s.requires.room, ap (λ (x : ℕ). x * width s.before) e)) ∙ ap (tab (entries s.before)) s.requires.room

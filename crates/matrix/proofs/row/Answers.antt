@@ -27,7 +27,7 @@ row_first-requires c = length-take-le _ _ (first-row c.before.before.before.befo
 
 pub loop-l-init : goal.loop-l-init
 loop-l-init c =
-    let s = c.before in
+    let s = c.before.before.before.before.before.before.before.before.before in
     let e = c.row_first.ensures ∙ gathered-one s.args.k (length s.args.acc.now) s.args.a.now s.args.b.now s.args.i in
     (search rules, (s.requires.0, (ap length e ∙ length-tab _ _, e)))
 
@@ -45,13 +45,13 @@ slice_bounds-row_more-end c = row-of-b c.before.before.before.before.before.befo
 
 pub row_more-requires : goal.row_more-requires
 row_more-requires c =
-    let s = c.before in
+    let s = c.before.before.before.before.before.before.before.before.before.before.before.before.before.before in
     let l = c.loop-l in
-    part_length s.args.b.now l.l (length s.args.acc.now) (row-of-b s.before.before.before.before.before.before.before.before.before.before.before.before.before l.l c.loop-l-test.true) ∙ sym l.invariant.1.1.0
+    part_length s.args.b.now l.l (length s.args.acc.now) (row-of-b s l.l c.loop-l-test.true) ∙ sym l.invariant.1.1.0
 
 pub loop-l-preserved : goal.loop-l-preserved
 loop-l-preserved c =
-    let s = c.before in
+    let s = c.before.before.before.before.before.before.before.before.before.before.before.before.before.before.before.before.before in
     let l = c.loop-l in
     let m = length s.args.acc.now in
     let e =
@@ -65,6 +65,6 @@ shape_of-acc c = c.loop-l.invariant.1.1.0
 pub returns : goal.returns
 unfolding entry_of
 returns c =
-    let s = c.before in
+    let s = c.before.before.before.before.before.before.before.before.before.before.before in
     let e : c.loop-l.l ≡ s.args.k = omega arith in
     c.loop-l.invariant.1.1.1 ∙ ap (gathered s.args.k (length s.args.acc.now) s.args.a.now s.args.b.now s.args.i) e

@@ -37,20 +37,20 @@ slice_bounds-column-end c = omega (arith, row-of-out c.before.before.before.befo
 
 pub column-requires : goal.column-requires
 column-requires c =
-    let s = c.before in
+    let s = c.before.before.before.before.before in
     let l = c.loop-j in
     let h = c.loop-j-test.true in
-    (h, s.requires.1.0 ∙ ap (λ (x : ℕ). x * s.args.m) (sym (part_length l.out l.j s.args.n (omega (arith, row-of-out s.before.before.before.before.before l.j h, l.invariant.1.same)))))
+    (h, s.requires.1.0 ∙ ap (λ (x : ℕ). x * s.args.m) (sym (part_length l.out l.j s.args.n (omega (arith, row-of-out s.before l.j h, l.invariant.1.same)))))
 
 pub loop-j-preserved : goal.loop-j-preserved
 loop-j-preserved c =
-    let s = c.before in
+    let s = c.before.before.before.before.before.before.before.before in
     let l = c.loop-j in
     let h = c.loop-j-test.true in
     let n = s.args.n in
-    let w = part_length l.out l.j n (omega (arith, row-of-out s.before.before.before.before.before.before.before.before l.j h, l.invariant.1.same)) in (
+    let w = part_length l.out l.j n (omega (arith, row-of-out s.before l.j h, l.invariant.1.same)) in (
       search rules,
-      filled_row (entries s.before.before.before.before.before.before.before.before) s.args.out.now l.out _ l.j n (l.j * n + n - l.j * n) (add-sub_cancel_left (l.j * n) n) l.invariant.1 (row-of-out s.before.before.before.before.before.before.before.before l.j h)
+      filled_row (entries s.before) s.args.out.now l.out _ l.j n (l.j * n + n - l.j * n) (add-sub_cancel_left (l.j * n) n) l.invariant.1 (row-of-out s.before l.j h)
           (c.column.ensures ∙ (ap (tab _) w ∙ column-places n s.args.m s.args.a.now l.j)),
     )
 
@@ -60,7 +60,7 @@ shape_of-out c = c.loop-j.invariant.1.same
 pub returns : goal.returns
 unfolding transpose
 returns c =
-    let s = c.before in
+    let s = c.before.before.before.before in
     let l = c.loop-j in
     let e : l.j ≡ s.args.m = omega arith in
-    filled-all _ _ _ _ l.invariant.1 (omega (arith, l.invariant.1.same, s.requires.1.1, ap (λ (x : ℕ). x * s.args.n) e)) ∙ ap (tab (entries s.before.before.before.before)) s.requires.1.1
+    filled-all _ _ _ _ l.invariant.1 (omega (arith, l.invariant.1.same, s.requires.1.1, ap (λ (x : ℕ). x * s.args.n) e)) ∙ ap (tab (entries s.before)) s.requires.1.1
