@@ -8,7 +8,7 @@ use native.Mathlib.Omega.{arith}
 use mathlib.Core.Bool.{Bool, true, false, not}
 use lib.Dec.{T, leb, lit<, lit≤, leb→le, nleb→lt}
 use lib.Pow.{pow_pos, pow-add, pow_mono}
-use lib.Ieee.{Float, nan, inf, fin, binary32, low, down, size, nearest, units, fits}
+use lib.Ieee.{Float, nan, inf, fin, binary32, down, size, nearest, units, fits}
 use lib.Ieee.Digits.{size-lt, size-le, size_reaches}
 use lib.Ieee.Fits.{down_pos, nearest-le}
 use lib.Ieee.Nearest.{nearest-ge}

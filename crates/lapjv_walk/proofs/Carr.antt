@@ -15,7 +15,7 @@ use native.Mathlib.Omega.{arith}
 use Rattle.lapjv_walk.specs.Carr.{Carr, carr_dence, carr_more, carr_pick, carr_runs, carr_seat, carr_step, Two, two, two_step}
 use Rattle.lapjv_walk.specs.Ccrt.{Kept}
 use Rattle.lapjv_walk.specs.Holds.{Left, Queue, Seat}
-use Rattle.lapjv_walk.specs.Loops.{runs, turns}
+use Rattle.lapjv_walk.specs.Loops.{runs}
 use Rattle.lapjv_walk.specs.Marks.{free, index, is_free}
 use Rattle.lapjv_walk.specs.Ops.{cost_at, Ops}
 use Rattle.lapjv_walk.proofs.Cases.{and_right, free-pos, never, pick-by, pick_ind, seat-below, taken-pos}

@@ -8,7 +8,6 @@ use lib.ListN.{get_or, length-set, set}
 use lib.Seq.{get_or-set_other, get_or-set_same}
 use native.Mathlib.Decide.{ℕ_discrete}
 use native.Mathlib.Omega.{arith}
-use Rattle.lists.specs.Lists.{keep}
 use Rattle.lapjv_walk.specs.Holds.{Marked, Paired, Seat}
 use Rattle.lapjv_walk.specs.Lapjv.{Sits}
 use Rattle.lapjv_walk.specs.Marks.{free, index, is_free}

@@ -5,7 +5,7 @@ use mathlib.Core.List.{List}
 use mathlib.Core.Logic.{inl, inr, ◌⊎◌, ⊎_elim}
 use Prim.Native.Nat.{◌+◌, ◌-◌, ◌<◌, suc, zero, ℕ, ◌≤◌}
 use borrow.Author.Tests.{eq-eqb, eqb-true}
-use lib.Dec.{eqb, T}
+use lib.Dec.{eqb}
 use lib.IntN.{pos, ℤ}
 use lib.ListN.{get_or, length}
 use native.Mathlib.Decide.{dec_lt, ℕ_discrete}

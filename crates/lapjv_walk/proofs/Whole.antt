@@ -23,7 +23,6 @@ use Rattle.lapjv_walk.proofs.Ccrt.{reduce-ok, ReduceOk, row-seated}
 use Rattle.lapjv_walk.proofs.Collect.{collect-ok, CollectOk}
 use Rattle.lapjv_walk.proofs.Loops.{walk-ind}
 use Rattle.lapjv_walk.proofs.Pairing.{all-taken}
-use Rattle.lapjv_walk.proofs.Search.{row_ok}
 
 module _ (O : Ops) (n : ℕ) (cost : List O.C) (some : 0 < n) where
   pub columns-ok : ReduceOk n (reduce_columns O n cost) × Seated n (reduce_columns O n cost).y

@@ -1,5 +1,4 @@
 -- `inverse::beside_identity` meets its contract.
-use borrow.Author.Rules.{rules}
 use mathlib.Core.Path.{refl}
 use lib.Ieee.{of_bits}
 use Rattle.inverse.specs.Inverse.{beside, identity}

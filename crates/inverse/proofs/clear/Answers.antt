@@ -1,5 +1,4 @@
 -- `inverse::clear` meets its contract.
-use borrow.Author.Rules.{rules}
 use Rattle.inverse.specs.Round.{turned}
 use Rattle.inverse.proofs.clear.Goals as goal
 

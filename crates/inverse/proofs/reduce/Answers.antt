@@ -1,11 +1,9 @@
 -- `inverse::reduce` meets its contract.
 use borrow.Author.Rules.{rules}
-use Prim.Native.Nat.{◌-◌}
 use mathlib.Core.Path.{◌≡◌, refl, ap, ◌∙◌}
-use lib.Ieee.{nan, sub, mul, binary32}
-use lib.ListN.{length, get_or}
+use lib.ListN.{length}
 use Rattle.lists.specs.Lists.{tab}
-use Rattle.lists.proofs.Fill.{Filled, filled_none, filled_more, filled-all}
+use Rattle.lists.proofs.Fill.{filled_none, filled_more, filled-all}
 use Rattle.inverse.specs.Inverse.{reduced}
 use Rattle.inverse.proofs.reduce.Goals as goal
 

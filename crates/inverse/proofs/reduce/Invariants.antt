@@ -1,12 +1,8 @@
 -- `inverse::reduce` meets its contract.
-use borrow.Author.Rules.{rules}
 use Prim.Native.Nat.{◌-◌}
-use mathlib.Core.Path.{◌≡◌, refl, ap, ◌∙◌}
 use lib.Ieee.{nan, sub, mul, binary32}
 use lib.ListN.{length, get_or}
-use Rattle.lists.specs.Lists.{tab}
-use Rattle.lists.proofs.Fill.{Filled, filled_none, filled_more, filled-all}
-use Rattle.inverse.specs.Inverse.{reduced}
+use Rattle.lists.proofs.Fill.{Filled}
 use Rattle.inverse.proofs.reduce.Given as goal
 
 abbrev pub invariant-loop-j : goal.invariant-loop-j

@@ -1,12 +1,10 @@
 -- `inverse::try_inverse` meets its contract.
-use borrow.Author.Rules.{rules}
 use Prim.Native.Nat.{◌-◌, ◌≤◌}
-use native.Mathlib.Omega.{arith}
-use mathlib.Core.Path.{◌≡◌, refl, ap, sym, ◌∙◌}
+use mathlib.Core.Path.{◌≡◌}
 use mathlib.Core.Option.{some}
-use Rattle.inverse.specs.Inverse.{columns, answer, inverse}
+use Rattle.inverse.specs.Inverse.{columns}
 use Rattle.inverse.specs.Round.{rows_of}
-use Rattle.inverse.proofs.Columns.{rows_after, column-turns, column-ends}
+use Rattle.inverse.proofs.Columns.{rows_after}
 use Rattle.inverse.proofs.try_inverse.Given as goal
 
 abbrev pub invariant-loop-c : goal.invariant-loop-c

@@ -1,5 +1,4 @@
 -- `lapjv_walk::cost_at` meets its contract.
-use borrow.Author.Rules.{rules}
 use native.Mathlib.Omega.{arith}
 use Rattle.lapjv_walk.proofs.Cells.{cell, cells}
 use Rattle.lapjv_walk.proofs.cost_at.Goals as goal

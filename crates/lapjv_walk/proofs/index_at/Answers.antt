@@ -1,5 +1,4 @@
 -- `lapjv_walk::index_at` meets its contract.
-use borrow.Author.Rules.{rules}
 use lib.IntN.{pos}
 use lib.ListN.{get_or}
 use mir.Syntax.{w64}

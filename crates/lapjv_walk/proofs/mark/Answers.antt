@@ -1,5 +1,4 @@
 -- `lapjv_walk::mark` meets its contract.
-use borrow.Author.Rules.{rules}
 use mir.Syntax.{w64}
 use mir.ValLaws.{to_z_pos}
 use native.Mathlib.Omega.{arith}

@@ -1,5 +1,4 @@
 -- `lapjv_walk::put_mark` meets its contract.
-use borrow.Author.Rules.{rules}
 use mir.Syntax.{w64}
 use mir.ValLaws.{to_z-of_z}
 use Rattle.lapjv_walk.proofs.put_mark.Goals as goal

@@ -1,11 +1,10 @@
 -- `matrix::column` meets its contract.
 use borrow.Author.Rules.{rules}
-use Prim.Native.Nat.{◌+◌, ◌-◌, ◌*◌, ◌<◌}
+use Prim.Native.Nat.{◌+◌, ◌*◌, ◌<◌}
 use native.Mathlib.Omega.{arith}
 use mathlib.Core.Path.{refl}
-use lib.Ieee.{nan}
-use lib.ListN.{length, get_or}
-use Rattle.lists.proofs.Fill.{Filled, filled_none, filled_more, filled-all}
+use lib.ListN.{length}
+use Rattle.lists.proofs.Fill.{filled_none, filled_more, filled-all}
 use Rattle.matrix.proofs.Rows.{in-matrix}
 use Rattle.matrix.proofs.column.Goals as goal
 use Rattle.matrix.proofs.column.Goals.{In-loop-i}

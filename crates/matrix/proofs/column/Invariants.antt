@@ -1,12 +1,8 @@
 -- `matrix::column` meets its contract.
-use borrow.Author.Rules.{rules}
-use Prim.Native.Nat.{◌+◌, ◌-◌, ◌*◌, ◌<◌}
-use native.Mathlib.Omega.{arith}
-use mathlib.Core.Path.{refl}
+use Prim.Native.Nat.{◌+◌, ◌-◌, ◌*◌}
 use lib.Ieee.{nan}
 use lib.ListN.{length, get_or}
-use Rattle.lists.proofs.Fill.{Filled, filled_none, filled_more, filled-all}
-use Rattle.matrix.proofs.Rows.{in-matrix}
+use Rattle.lists.proofs.Fill.{Filled}
 use Rattle.matrix.proofs.column.Given as goal
 
 abbrev pub invariant-loop-i : goal.invariant-loop-i

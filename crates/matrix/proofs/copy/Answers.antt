@@ -1,11 +1,8 @@
 -- `matrix::copy` meets its contract.
 use borrow.Author.Rules.{rules}
-use Prim.Native.Nat.{◌-◌}
 use mathlib.Core.Path.{refl, ap, sym, ◌∙◌}
-use lib.Ieee.{nan}
-use lib.ListN.{length, get_or}
 use Rattle.lists.specs.Lists.{tab}
-use Rattle.lists.proofs.Fill.{Filled, filled_none, filled_more, filled-all, tab-get_d}
+use Rattle.lists.proofs.Fill.{filled_none, filled_more, filled-all, tab-get_d}
 use Rattle.matrix.proofs.copy.Goals as goal
 
 pub loop-j-init : goal.loop-j-init

@@ -1,11 +1,8 @@
 -- `matrix::copy` meets its contract.
-use borrow.Author.Rules.{rules}
 use Prim.Native.Nat.{◌-◌}
-use mathlib.Core.Path.{refl, ap, sym, ◌∙◌}
 use lib.Ieee.{nan}
 use lib.ListN.{length, get_or}
-use Rattle.lists.specs.Lists.{tab}
-use Rattle.lists.proofs.Fill.{Filled, filled_none, filled_more, filled-all, tab-get_d}
+use Rattle.lists.proofs.Fill.{Filled}
 use Rattle.matrix.proofs.copy.Given as goal
 
 abbrev pub invariant-loop-j : goal.invariant-loop-j

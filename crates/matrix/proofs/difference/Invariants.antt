@@ -1,11 +1,8 @@
 -- `matrix::difference` meets its contract.
-use borrow.Author.Rules.{rules}
 use Prim.Native.Nat.{◌-◌}
-use mathlib.Core.Path.{refl}
 use lib.Ieee.{nan, sub, binary32}
 use lib.ListN.{length, get_or}
-use Rattle.lists.proofs.Fill.{Filled, filled_none, filled_more, filled-all}
-use Rattle.matrix.specs.Matrix.{difference}
+use Rattle.lists.proofs.Fill.{Filled}
 use Rattle.matrix.proofs.difference.Given as goal
 
 abbrev pub invariant-loop-q : goal.invariant-loop-q

@@ -9,7 +9,7 @@ use lib.ListN.{length}
 use Rattle.lists.specs.Lists.{tab}
 use Rattle.lists.proofs.Tab.{length-tab}
 use Rattle.matrix.specs.Matrix.{entry_of, product}
-use Rattle.lists.proofs.Fill.{Filled, filled_none, filled-all}
+use Rattle.lists.proofs.Fill.{filled_none, filled-all}
 use Rattle.matrix.proofs.Rows.{row_inside, part_length, row-places, filled_row}
 use Rattle.matrix.proofs.product_by.Goals as goal
 use Rattle.matrix.proofs.product_by.Goals.{Start}

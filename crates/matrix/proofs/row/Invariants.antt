@@ -1,14 +1,8 @@
 -- `matrix::row` meets its contract.
-use borrow.Author.Rules.{rules}
-use Prim.Native.Nat.{ℕ, ◌+◌, ◌-◌, ◌*◌, ◌<◌, ◌≤◌}
-use native.Mathlib.Omega.{arith}
-use mathlib.Core.Path.{◌≡◌, ap, sym, ◌∙◌}
+use Prim.Native.Nat.{◌-◌, ◌<◌, ◌≤◌}
+use mathlib.Core.Path.{◌≡◌}
 use lib.ListN.{length}
-use lib.Seq.{length-take-le}
-use Rattle.lists.specs.Lists.{tab}
-use Rattle.lists.proofs.Tab.{length-tab}
-use Rattle.matrix.specs.Matrix.{entry_of}
-use Rattle.matrix.proofs.Rows.{row_inside, part_length, gathered, gathered-one, gathered-more}
+use Rattle.matrix.proofs.Rows.{gathered}
 use Rattle.matrix.proofs.row.Given as goal
 
 abbrev pub invariant-loop-l : goal.invariant-loop-l

@@ -1,10 +1,7 @@
 -- `matrix::row_first` meets its contract.
 use borrow.Author.Rules.{rules}
-use Prim.Native.Nat.{◌-◌}
 use mathlib.Core.Path.{refl}
-use lib.Ieee.{nan, mul, binary32}
-use lib.ListN.{length, get_or}
-use Rattle.lists.proofs.Fill.{Filled, filled_none, filled_more, filled-all}
+use Rattle.lists.proofs.Fill.{filled_none, filled_more, filled-all}
 use Rattle.matrix.proofs.row_first.Goals as goal
 
 pub loop-j-init : goal.loop-j-init

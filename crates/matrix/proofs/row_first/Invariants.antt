@@ -1,10 +1,8 @@
 -- `matrix::row_first` meets its contract.
-use borrow.Author.Rules.{rules}
 use Prim.Native.Nat.{◌-◌}
-use mathlib.Core.Path.{refl}
 use lib.Ieee.{nan, mul, binary32}
 use lib.ListN.{length, get_or}
-use Rattle.lists.proofs.Fill.{Filled, filled_none, filled_more, filled-all}
+use Rattle.lists.proofs.Fill.{Filled}
 use Rattle.matrix.proofs.row_first.Given as goal
 
 abbrev pub invariant-loop-j : goal.invariant-loop-j

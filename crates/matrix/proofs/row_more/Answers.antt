@@ -1,10 +1,9 @@
 -- `matrix::row_more` meets its contract.
 use borrow.Author.Rules.{rules}
-use Prim.Native.Nat.{◌-◌}
 use mathlib.Core.Path.{ap}
 use lib.Ieee.{Float, nan, add, mul, binary32}
-use lib.ListN.{length, get_or}
-use Rattle.lists.proofs.Fill.{Filled, filled_none, filled_more, filled_next, filled-all}
+use lib.ListN.{get_or}
+use Rattle.lists.proofs.Fill.{filled_none, filled_more, filled_next, filled-all}
 use Rattle.matrix.proofs.row_more.Goals as goal
 
 pub loop-j-init : goal.loop-j-init

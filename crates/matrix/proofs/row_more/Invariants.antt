@@ -1,10 +1,8 @@
 -- `matrix::row_more` meets its contract.
-use borrow.Author.Rules.{rules}
 use Prim.Native.Nat.{◌-◌}
-use mathlib.Core.Path.{ap}
-use lib.Ieee.{Float, nan, add, mul, binary32}
+use lib.Ieee.{nan, add, mul, binary32}
 use lib.ListN.{length, get_or}
-use Rattle.lists.proofs.Fill.{Filled, filled_none, filled_more, filled_next, filled-all}
+use Rattle.lists.proofs.Fill.{Filled}
 use Rattle.matrix.proofs.row_more.Given as goal
 
 abbrev pub invariant-loop-j : goal.invariant-loop-j

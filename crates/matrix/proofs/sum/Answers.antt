@@ -1,10 +1,7 @@
 -- `matrix::sum` meets its contract.
 use borrow.Author.Rules.{rules}
-use Prim.Native.Nat.{◌-◌}
 use mathlib.Core.Path.{refl}
-use lib.Ieee.{nan, add, binary32}
-use lib.ListN.{length, get_or}
-use Rattle.lists.proofs.Fill.{Filled, filled_none, filled_more, filled-all}
+use Rattle.lists.proofs.Fill.{filled_none, filled_more, filled-all}
 use Rattle.matrix.specs.Matrix.{sum}
 use Rattle.matrix.proofs.sum.Goals as goal
 

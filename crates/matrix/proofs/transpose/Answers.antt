@@ -8,7 +8,7 @@ use lib.Ieee.{Float, nan}
 use lib.ListN.{length, get_or}
 use Rattle.lists.specs.Lists.{tab}
 use Rattle.matrix.specs.Matrix.{transpose}
-use Rattle.lists.proofs.Fill.{Filled, filled_none, filled-all}
+use Rattle.lists.proofs.Fill.{filled_none, filled-all}
 use Rattle.matrix.proofs.Rows.{row_inside, part_length, column-places, filled_row}
 use Rattle.matrix.proofs.transpose.Goals as goal
 use Rattle.matrix.proofs.transpose.Goals.{Start}

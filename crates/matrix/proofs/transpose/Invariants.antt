@@ -1,15 +1,8 @@
 -- `matrix::transpose` meets its contract.
-use borrow.Author.Rules.{rules}
-use Prim.Native.Nat.{ℕ, ◌+◌, ◌-◌, ◌*◌, ◌/◌, ◌%◌, ◌<◌, ◌≤◌}
-use native.Mathlib.Omega.{arith}
-use native.Mathlib.Nat.{add-sub_cancel_left, zero-mul}
-use mathlib.Core.Path.{◌≡◌, ap, sym, ◌∙◌}
-use lib.Ieee.{Float, nan}
-use lib.ListN.{length, get_or}
-use Rattle.lists.specs.Lists.{tab}
-use Rattle.matrix.specs.Matrix.{transpose}
-use Rattle.lists.proofs.Fill.{Filled, filled_none, filled-all}
-use Rattle.matrix.proofs.Rows.{row_inside, part_length, column-places, filled_row}
+use Prim.Native.Nat.{◌+◌, ◌-◌, ◌*◌, ◌/◌, ◌%◌, ◌≤◌}
+use lib.Ieee.{nan}
+use lib.ListN.{get_or}
+use Rattle.lists.proofs.Fill.{Filled}
 use Rattle.matrix.proofs.transpose.Given as goal
 
 abbrev pub invariant-loop-j : goal.invariant-loop-j

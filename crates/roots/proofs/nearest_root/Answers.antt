@@ -1,5 +1,4 @@
 -- `roots::nearest_root` meets its contract.
-use borrow.Author.Rules.{rules}
 use native.Mathlib.Omega.{arith}
 use Rattle.roots.proofs.Roots.{square-fits, nearest-beside, next-beside}
 use Rattle.roots.proofs.nearest_root.Goals as goal

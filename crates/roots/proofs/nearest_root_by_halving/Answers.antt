@@ -1,5 +1,4 @@
 -- `roots::nearest_root_by_halving` meets its contract.
-use borrow.Author.Rules.{rules}
 use mathlib.Core.Path.{◌≡◌, sym, ap, ◌∙◌}
 use Prim.Native.Nat.{ℕ, ◌+◌, ◌*◌, compare, Ordering}
 use native.Mathlib.Numerals.{add-one}

@@ -1,5 +1,4 @@
 -- `roots::root_estimate` meets its contract: no step leaves its type.
-use borrow.Author.Rules.{rules}
 use Prim.Native.Nat.{ℕ, ◌+◌, ◌-◌, ◌*◌, ◌/◌, ◌%◌, ◌^◌, ◌≤◌, ◌<◌}
 use native.Mathlib.Nat.{mul-le-mul, le_of_lt, mod-lt}
 use native.Mathlib.Omega.{arith}

@@ -1,6 +1,6 @@
 -- `roots::whole_root` meets its contract. The invariant: lo's square is within a and hi's is above it; the measure is hi - lo.
 use mathlib.Core.Path.{subst}
-use Prim.Native.Nat.{ℕ, ◌-◌, ◌*◌, ◌^◌, ◌≤◌, ◌<◌}
+use Prim.Native.Nat.{ℕ, ◌-◌, ◌*◌, ◌≤◌, ◌<◌}
 use native.Mathlib.Omega.{arith}
 use Rattle.roots.specs.Roots.{IsRoot}
 use Rattle.roots.proofs.Roots.{square-fits}

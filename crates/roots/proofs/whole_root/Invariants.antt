@@ -1,9 +1,5 @@
 -- `roots::whole_root` meets its contract. The invariant: lo's square is within a and hi's is above it; the measure is hi - lo.
-use mathlib.Core.Path.{subst}
-use Prim.Native.Nat.{ℕ, ◌-◌, ◌*◌, ◌^◌, ◌≤◌, ◌<◌}
-use native.Mathlib.Omega.{arith}
-use Rattle.roots.specs.Roots.{IsRoot}
-use Rattle.roots.proofs.Roots.{square-fits}
+use Prim.Native.Nat.{◌-◌, ◌*◌, ◌^◌, ◌≤◌, ◌<◌}
 use Rattle.roots.proofs.whole_root.Given as goal
 
 abbrev pub invariant-loop-hi : goal.invariant-loop-hi

@@ -1,5 +1,4 @@
 -- `object::Rect::from_xyxy` meets its contract.
-use borrow.Author.Rules.{rules}
 use Rattle.object.specs.Object.{rect_of}
 use Rattle.object.proofs.Rect.from_xyxy.Goals as goal
 

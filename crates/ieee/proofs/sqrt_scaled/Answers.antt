@@ -1,5 +1,4 @@
--- `ieee::sqrt_scaled` meets its contract. Assumes nothing.
-use borrow.Author.Rules.{rules}
+-- `ieee::sqrt_scaled` meets its contract.
 use Prim.Native.Nat.{ℕ, zero, suc, ◌+◌, ◌-◌, ◌*◌, ◌/◌, ◌%◌, ◌^◌, ◌≤◌, ◌<◌}
 use mathlib.Core.Path.{◌≡◌, refl, sym, ap, subst, ◌∙◌}
 use native.Mathlib.Nat.{mul-le-mul_left}
@@ -9,8 +8,7 @@ use Rattle.roots.specs.Roots.{nearest_root}
 use Rattle.ieee.specs.Patterns.{Normalised}
 use Rattle.ieee.specs.Sqrt.{root_rounded}
 use Rattle.ieee.proofs.RootBits.{rounded-bits, rounded-small, halved}
-use Rattle.ieee.proofs.sqrt_scaled.Statement.{statement}
-use Rattle.ieee.proofs.sqrt_scaled.Tie as tie
+use Rattle.ieee.proofs.sqrt_scaled.Goals as goal
 
 abbrev Pattern : ℕ → ℕ → ℕ → Type 0
 Pattern m p r = (of_bits binary32 r ≡ root_rounded (m * 2 ^ p)) × (r < 0x7f80_0000)
@@ -42,47 +40,14 @@ under n h = omega arith
 small : (n r : ℕ) → n + 2 ^ 24 ≤ 2 ^ 48 → r ≡ nearest_root n → r < 2 ^ 24
 small n r h e = subst (λ (z : ℕ). z < 2 ^ 24) (sym e) (rounded-small n h)
 
-mul-nearest-root : tie.Need-overflow-mul-nearest-root
-mul-nearest-root c = search rules
+pub overflow_mul-m-2 : goal.overflow_mul-m-2
+overflow_mul-m-2 c = omega (arith, room c.args.m (c.args.p % 2) c.requires.digits)
 
-sub-nearest-root : tie.Need-overflow-sub-nearest-root
-sub-nearest-root c = search rules
+pub nearest_root-q-requires : goal.nearest_root-q-requires
+nearest_root-q-requires c = (under _ (room c.args.m (c.args.p % 2) c.requires.digits), c.root_estimate.ensures)
 
-mul-nearest-root-2 : tie.Need-overflow-mul-nearest-root-2
-mul-nearest-root-2 c = omega (arith, room c.args.m (c.args.p % 2) c.requires.digits)
+pub overflow_add-result-2 : goal.overflow_add-result-2
+overflow_add-result-2 c = omega (arith, small _ c.nearest_root-q.result (room c.args.m (c.args.p % 2) c.requires.digits) c.nearest_root-q.ensures)
 
-root-estimate-requires : tie.Need-root-estimate-requires
-root-estimate-requires c κs = search rules
-
-nearest-root-requires : tie.Need-nearest-root-requires
-nearest-root-requires c κs = (under _ (room c.before.args.m (c.before.args.p % 2) c.before.requires.digits), c.root-estimate.ensures)
-
-sub-result : tie.Need-overflow-sub-result
-sub-result c = search rules
-
-add-result : tie.Need-overflow-add-result
-add-result c = search rules
-
-mul-result : tie.Need-overflow-mul-result
-mul-result c = search rules
-
-add-result-2 : tie.Need-overflow-add-result-2
-add-result-2 c = omega (arith, small _ c.nearest-root.result (room c.before.before.args.m (c.before.before.args.p % 2) c.before.before.requires.digits) c.nearest-root.ensures)
-
-returns : tie.Need-returns
-returns c = parity _ _ _ _ c.before.before.requires refl c.nearest-root.ensures
-
-pub sqrt-scaled-spec : {M : Type 1} → statement M
-sqrt-scaled-spec =
-    tie.close
-    (tie.spec
-    mul-nearest-root
-    sub-nearest-root
-    mul-nearest-root-2
-    root-estimate-requires
-    nearest-root-requires
-    sub-result
-    add-result
-    mul-result
-    add-result-2
-    returns)
+pub returns : goal.returns
+returns c = parity _ _ _ _ c.requires refl c.nearest_root-q.ensures

@@ -1,5 +1,4 @@
--- `ieee::abs` meets its contract: the value of a pattern without its sign's bit. Assumes nothing.
-use borrow.Author.Rules.{rules}
+-- `ieee::abs` meets its contract: the value of a pattern without its sign's bit.
 use mathlib.Core.Path.{◌≡◌, refl, sym, ap, ◌∙◌, subst}
 use Prim.Native.Nat.{ℕ, zero, suc, ◌+◌, ◌-◌, ◌*◌, ◌/◌, ◌%◌, ◌<◌}
 use native.Mathlib.Nat.{mod-mod, mod-lt, mul-pos, zero-lt-suc, dvd-mul_right, mod-mod_of_dvd}
@@ -7,13 +6,13 @@ use mathlib.Core.Bool.{Bool, true, false, cond}
 use lib.Dec.{T, leb, ltb, eqb}
 use lib.Arith.{lt→nleb}
 use lib.Pow.{pow_pos}
-use lib.Ieee.{Float, nan, inf, Format, binary32, prec, low, odd, fits, isNan, hid, ones, top, of_fields, of_bits, to_bits, nan_bits}
+use lib.Ieee.{Float, nan, inf, Format, binary32, prec, low, odd, fits, is_nan, hid, ones, top, of_fields, of_bits, to_bits, nan_bits}
 use lib.Ieee.Bits.{of_bits-to_bits, is_false, nan_bits_is, nan_bits_above}
 use Rattle.ieee.specs.Ops.{abs_of}
 use Rattle.ieee.proofs.Nans.{nan_is, no_nan}
 use Rattle.ieee.proofs.Values.{of_bits_is}
-use Rattle.ieee.proofs.abs.Statement.{statement}
-use Rattle.ieee.proofs.abs.Tie as tie
+use Rattle.ieee.proofs.abs.Goals as goal
+use Rattle.ieee.proofs.abs.Goals.{Start}
 
 -- ---- the sign bit cleared
 abs-odd : (d : ℕ) (s : Bool) (q k l : ℕ) → abs_of (odd d s q k l) ≡ odd d false q k l
@@ -43,13 +42,13 @@ abs-bits f x p =
     rw (is_false (leb (top f) (b % top f)) (lt→nleb (top f) (b % top f) (mod-lt b (top_pos f))), mod-mod b (top f), mod-mod_of_dvd (hid f) b (dvd-mul_right (hid f) (suc (ones f)))) in
     of_bits_is f (b % top f) ∙ r ∙ sym z
 
-abs-no-nan : (f : Format) (x : Float) → T (fits f x) → isNan x ≡ false → nan_bits f (to_bits f x % top f) ≡ false
+abs-no-nan : (f : Format) (x : Float) → T (fits f x) → is_nan x ≡ false → nan_bits f (to_bits f x % top f) ≡ false
 abs-no-nan f x p h =
     nan_bits_above f (to_bits f x % top f)
     ∙ ap (ltb (ones f * hid f)) (mod-mod (to_bits f x) (top f))
     ∙ sym (nan_bits_above f (to_bits f x))
     ∙ nan_bits_is f (to_bits f x)
-    ∙ ap isNan (of_bits-to_bits f x p)
+    ∙ ap is_nan (of_bits-to_bits f x p)
     ∙ h
 
 nan-stays : (x : Float) → x ≡ nan → x ≡ abs_of x
@@ -57,27 +56,21 @@ unfolding abs_of
 nan-stays x h = rw h
 
 -- ---- the code
-held : (c : tie.Start) → T (fits binary32 c.args.x)
-held c = subst T (sym c.well-formed.0.1) tt
+held : (c : Start) → T (fits binary32 c.args.x)
+held c = subst T (sym c.well_formed.0.1) tt
 
-is-nan-requires : tie.Need-is-nan-requires
-is-nan-requires c κs = search rules
+pub returns-then-is_nan : goal.returns-then-is_nan
+returns-then-is_nan c =
+    let x = c.args.x in
+    nan-stays x (nan_is x (sym c.is_nan.ensures ∙ c.if-is_nan.true))
 
-returns : tie.Need-returns
-returns c =
-    let x = c.before.before.args.x in
-    nan-stays x (nan_is x (sym c.before.is-nan.ensures ∙ c.if1.true))
+pub float_to_bits-result : goal.float_to_bits-result
+float_to_bits-result c = no_nan c.args.x (sym c.is_nan.ensures ∙ c.if-is_nan.false)
 
-float-to-bits-result : tie.Need-float-to-bits-result
-float-to-bits-result c = no_nan c.before.before.args.x (sym c.before.is-nan.ensures ∙ c.if1.false)
+pub returns : goal.returns
+returns c = abs-bits binary32 c.args.x (held c.before.before)
 
-returns-2 : tie.Need-returns-2
-returns-2 c = abs-bits binary32 c.before.before.args.x (held c.before.before)
-
-float-from-bits-result : tie.Need-float-from-bits-result
-float-from-bits-result c =
-    let x = c.before.before.args.x in
-    rw (abs-no-nan binary32 x (held c.before.before) (sym c.before.is-nan.ensures ∙ c.if1.false)) tt
-
-pub abs-spec : {M : Type 1} → statement M
-abs-spec = tie.close (tie.spec is-nan-requires returns float-to-bits-result float-from-bits-result returns-2)
+pub float_from_bits-result : goal.float_from_bits-result
+float_from_bits-result c =
+    let x = c.args.x in
+    rw (abs-no-nan binary32 x (held c.before.before) (sym c.is_nan.ensures ∙ c.if-is_nan.false)) tt

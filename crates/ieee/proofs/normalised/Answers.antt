@@ -1,18 +1,12 @@
--- `ieee::normalised` meets its contract. The invariant: m * 2 ^ p stays t * 2 ^ 149. The measure is what m lacks to 2 ^ 23. Assumes nothing.
+-- `ieee::normalised` meets its contract. The invariant: m * 2 ^ p stays t * 2 ^ 149. The measure is what m lacks to 2 ^ 23.
 use mathlib.Core.Path.{◌≡◌, refl, sym, ap, ◌∙◌}
 use Prim.Native.Nat.{ℕ, zero, suc, ◌-◌, ◌*◌, ◌^◌, ◌≤◌, ◌<◌}
 use native.Mathlib.Nat.{mul-le-mul, lt_of_le_of_lt, le_of_lt, pow-succ', mul_left_comm, mul-one, mul_assoc, mul-le-mul_right, zero-lt-suc, lt_of_not-le, not-le_of_lt, le_trans, le_of_eq}
 use lib.Pow.{pow_mono}
 use native.Mathlib.Omega.{arith}
 use lib.Dec.{lit<, lit≤}
-use Rattle.ieee.proofs.normalised.Statement.{statement}
-use Rattle.ieee.proofs.normalised.Tie as tie
-
-abbrev invariant-loop : tie.invariant-loop
-invariant-loop t m₀ p₀ m p = (m * 2 ^ p ≡ t * 2 ^ 149) × (0 < m) × (m < 2 ^ 24) × (0 < t) × (p ≤ 149)
-
-abbrev decreases-loop : tie.decreases-loop
-decreases-loop t m₀ p₀ m p = 2 ^ 23 - m
+use Rattle.ieee.proofs.normalised.Goals as goal
+use Rattle.ieee.proofs.normalised.Goals.{In-loop-m}
 
 -- An m below 2 ^ 24 has some of the doublings left. (T is 2 ^ 149: `omega` reads no numeral of more than 38 digits.)
 short : (t m T : ℕ) → m ≡ t * T → 1 * T ≤ t * T → 2 ^ 24 ≤ T → m < 2 ^ 24 → ⊥
@@ -39,31 +33,22 @@ doubled t m (suc p) e h = ap (λ (z : ℕ). 2 * m * 2 ^ z) pred ∙ mul-comm-two
     mul-comm-two : 2 * m * 2 ^ p ≡ m * 2 ^ suc p
     mul-comm-two = mul_assoc 2 m (2 ^ p) ∙ mul_left_comm 2 m (2 ^ p) ∙ ap (λ (z : ℕ). m * z) (sym (pow-succ' 2 p))
 
-loop-holds : tie.Need-loop-init invariant-loop decreases-loop
-loop-holds c = (refl, omega arith, omega arith, omega arith, omega arith)
+pub loop-m-init : goal.loop-m-init
+loop-m-init c = (refl, omega arith, omega arith, omega arith, omega arith)
 
-mul-m : tie.Need-overflow-mul-m invariant-loop decreases-loop
-mul-m c = omega arith
+module _ (c : In-loop-m) where
+  more : 0 < c.loop-m.p
+  more = let v = c.loop-m.invariant in left _ _ c.loop-m.p v.0 v.2 v.3
 
-module _ (c : tie.In-loop invariant-loop decreases-loop) where
-  more : 0 < c.before.loop.p
-  more = let v = c.before.loop.invariant in left _ _ c.before.loop.p v.0 v.2 v.3
+pub overflow_sub-p : goal.overflow_sub-p
+overflow_sub-p c = more c
 
-sub-p : tie.Need-overflow-sub-p invariant-loop decreases-loop
-sub-p c = more c
+pub loop-m-preserved : goal.loop-m-preserved
+loop-m-preserved c =
+    let v = c.loop-m.invariant in
+    (doubled _ _ c.loop-m.p v.0 (more c), omega arith, omega arith, v.3, omega arith)
 
-loop-less : tie.Need-loop-smaller invariant-loop decreases-loop
-loop-less c = omega arith
-
-loop-again : tie.Need-loop-preserved invariant-loop decreases-loop
-loop-again c =
-    let v = c.before.loop.invariant in
-    (doubled _ _ c.before.loop.p v.0 (more c), omega arith, omega arith, v.3, omega arith)
-
-returns : tie.Need-returns invariant-loop decreases-loop
+pub returns : goal.returns
 returns c =
-    let v = c.before.loop.invariant in
-    record { value = v.0; leading = omega arith; digits = v.2; least = most _ _ c.before.loop.p v.0 v.2 v.3; most = omega arith }
-
-pub normalised-spec : {M : Type 1} → statement M
-normalised-spec = tie.close (tie.spec invariant-loop decreases-loop loop-holds mul-m sub-p loop-less loop-again returns)
+    let v = c.loop-m.invariant in
+    record { value = v.0; leading = omega arith; digits = v.2; least = most _ _ c.loop-m.p v.0 v.2 v.3; most = omega arith }

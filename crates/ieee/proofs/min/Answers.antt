@@ -1,0 +1,20 @@
+-- `ieee::min` meets its contract: each way returns what the definition picks under the tests that led there.
+use mathlib.Core.Path.{sym, ◌∙◌}
+use lib.Ieee.{is_nan}
+use Rattle.ieee.specs.Ops.{min_of}
+use Rattle.ieee.proofs.Nans.{lt-numbers, pick_first}
+use Rattle.ieee.proofs.min.Goals as goal
+
+pub returns-then-b-a : goal.returns-then-b-a
+unfolding min_of
+returns-then-b-a c =
+    let h = lt-numbers _ _ c.if-b-a.true in
+    simp (h.0, h.1, c.if-b-a.true)
+
+pub returns-then-is_nan : goal.returns-then-is_nan
+unfolding min_of
+returns-then-is_nan c = simp (sym c.is_nan.ensures ∙ c.if-is_nan.true)
+
+pub returns-else-is_nan : goal.returns-else-is_nan
+unfolding min_of
+returns-else-is_nan c = pick_first (is_nan c.args.b) _ _ _ _ (sym c.is_nan.ensures ∙ c.if-is_nan.false) c.if-b-a.false
