@@ -19,7 +19,7 @@ use Rattle.rules.specs.Rules.{total_rules, sound_at}
 use Rattle.rules.proofs.Sound.{id_below}
 use Rattle.reports.specs.Written.{rect_at}
 use Rattle.image.specs.declared.TrackerImage.{TrackerImage}
-use Rattle.image.specs.Image.{headed, is_set, decode_tracker, meant_track, cell_at, layout_in, issued_in, count_in, byte_in, frames_in, Whole, Cleared}
+use Rattle.image.specs.Image.{tagged, is_set, decode_tracker, meant_track, cell_at, issued_in, count_in, byte_in, frames_in, Whole, Cleared}
 use Rattle.frame_in_lists.specs.InPlace.{settings_in, usable_totals, track_in, usable_at, AheadOf, ToldOf, with_totals, Closed}
 
 -- ---- before the loops
@@ -29,15 +29,15 @@ pub same-settings : (i : TrackerImage) (s : Settings) (b : Bool)
 unfolding decode_tracker
 same-settings i s b p e = p ∙ (λ k. record { det_thresh = get_or i.floats 0 nan; iou_threshold = get_or i.floats 1 nan; inertia = get_or i.floats 2 nan; max_age = get_or i.words 0 0; min_hits = get_or i.words 1 0; delta_t = get_or i.words 2 0; use_byte = e k })
 
-module _ (i : TrackerImage) (t : Bool) (is : t ≡ headed (layout_in i) (byte_in i)) where
+module _ (i : TrackerImage) (t : Bool) (is : t ≡ tagged (byte_in i)) where
   abbrev totals : Settings → Bool
   totals s = total_rules s (frames_in i) (issued_in i) (count_in i)
 
-  pub totals-headless : t ≡ false → false ≡ usable_totals i
-  totals-headless e = ap (λ (b : Bool). b && totals (settings_in i)) (sym e ∙ is)
+  pub totals-untagged : t ≡ false → false ≡ usable_totals i
+  totals-untagged e = ap (λ (b : Bool). b && totals (settings_in i)) (sym e ∙ is)
 
-  pub totals-headed : t ≡ true → (s : Settings) (r : Bool) → s ≡ settings_in i → r ≡ totals s → r ≡ usable_totals i
-  totals-headed e s r same h = h ∙ ap totals same ∙ ap (λ (b : Bool). b && totals (settings_in i)) (sym e ∙ is)
+  pub totals-tagged : t ≡ true → (s : Settings) (r : Bool) → s ≡ settings_in i → r ≡ totals s → r ≡ usable_totals i
+  totals-tagged e s r same h = h ∙ ap totals same ∙ ap (λ (b : Bool). b && totals (settings_in i)) (sym e ∙ is)
 
 -- what usable totals tell
 pub record Bounds (i : TrackerImage) : Type 0 where
@@ -53,7 +53,7 @@ bounds i h =
     let b = leb (frames_in i) 1000000 in
     let c = leb (issued_in i) (64 * frames_in i) in
     let d = leb (count_in i) 64 in
-    let abcd = and_right (headed (layout_in i) (byte_in i)) (a && b && c && d) h in
+    let abcd = and_right (tagged (byte_in i)) (a && b && c && d) h in
     let abc = and_left (a && b && c) d abcd in
     let ab = and_left (a && b) c abc in
     record {

@@ -15,7 +15,7 @@ use Rattle.frame.specs.State.{state_rules}
 use Rattle.rules.specs.Rules.{total_rules, sound_at, sound_from}
 use Rattle.rules.proofs.Sound.{passed, failed, none_left}
 use Rattle.image.specs.declared.TrackerImage.{TrackerImage}
-use Rattle.image.specs.Image.{Cell, headed, decode_track, decode_tracker, meant_track, meant, cells, layout_in, issued_in, count_in, byte_in, frames_in}
+use Rattle.image.specs.Image.{Cell, tagged, decode_track, decode_tracker, meant_track, meant, cells, issued_in, count_in, byte_in, frames_in}
 use Rattle.frame_in_lists.specs.InPlace.{settings_in, usable_totals}
 
 -- ---- the live tracks
@@ -81,7 +81,7 @@ module _ (i : TrackerImage) where
 
   tested : (meant i && state_rules (decode_tracker i)) ≡ (usable_totals i && tracks)
   unfolding meant state_rules total_rules decode_tracker
-  tested = apart (headed (layout_in i) (byte_in i)) _ (total_rules (settings_in i) (frames_in i) (issued_in i) (count_in i)) _ _
+  tested = apart (tagged (byte_in i)) _ (total_rules (settings_in i) (frames_in i) (issued_in i) (count_in i)) _ _
 
   pub bad-totals : usable_totals i ≡ false → (meant i && state_rules (decode_tracker i)) ≡ false
   bad-totals h = tested ∙ ap (λ (b : Bool). b && tracks) h

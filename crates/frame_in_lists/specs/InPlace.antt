@@ -7,7 +7,7 @@ use Rattle.frame.specs.Frame.{predict_tracked, unbroken, is_reported, report_of}
 use Rattle.rules.specs.Rules.{total_rules, sound_at}
 use Rattle.reports.specs.Written.{rect_at}
 use Rattle.image.specs.declared.TrackerImage.{TrackerImage}
-use Rattle.image.specs.Image.{headed, decode_track, meant_track, image_of, cell_at, layout_in, issued_in, count_in, byte_in, frames_in, decode_tracker, Whole, Cleared}
+use Rattle.image.specs.Image.{tagged, decode_track, meant_track, image_of, cell_at, issued_in, count_in, byte_in, frames_in, decode_tracker, Whole, Cleared}
 use Rattle.frame_in_lists.specs.declared.Ahead.{Ahead}
 
 -- ---- before the loops
@@ -19,9 +19,9 @@ settings_in i = (decode_tracker i).settings
 abbrev pub SettingsIn : List Float → List ℕ → Settings → Type 0
 SettingsIn floats words r = (wide : List ℕ) → r ≡ settings_in (image_of wide floats words)
 
--- the head means something, and the state rules that need no track hold
+-- use_byte means something, and the state rules that need no track hold
 abbrev pub usable_totals : TrackerImage → Bool
-usable_totals i = headed (layout_in i) (byte_in i) && total_rules (settings_in i) (frames_in i) (issued_in i) (count_in i)
+usable_totals i = tagged (byte_in i) && total_rules (settings_in i) (frames_in i) (issued_in i) (count_in i)
 
 -- ---- up to the rounds
 
@@ -47,7 +47,7 @@ pub record ToldOf (s : Settings) (frames : ℕ) (e : Tracked) (n : ℕ) (boxes :
   pub ids-after : ids' ≡ pick (is_reported s frames e.track) (set ids n (report_of e).id) ids
 
 abbrev pub with_totals : ℕ → ℕ → ℕ → TrackerImage → TrackerImage
-with_totals issued live frames i = image_of (set (set i.wide 1 issued) 2 live) i.floats (set i.words 4 frames)
+with_totals issued live frames i = image_of (set (set i.wide 0 issued) 1 live) i.floats (set i.words 4 frames)
 
 -- i' is i with zeros past the live tracks, and these totals; i has the lengths of its types
 pub record Closed (issued live frames : ℕ) (i i' : TrackerImage) : Type 0 where

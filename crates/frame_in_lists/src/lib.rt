@@ -25,15 +25,15 @@ pub fn settings_in(floats: &[f32; 10435], words: &[u32; 965]) -> Settings
     }
 }
 
-// The head of the image means something, and the settings and the totals obey the state rules.
-pub fn are_totals_usable(wide: &[u64; 67], floats: &[f32; 10435], words: &[u32; 965]) -> bool
+// `use_byte` means something, and the settings and the totals obey the state rules.
+pub fn are_totals_usable(wide: &[u64; 66], floats: &[f32; 10435], words: &[u32; 965]) -> bool
     ensures { result ≡ usable_totals (image_of wide.now floats.now words.now) }
 {
-    if !image::is_headed(wide[0], words[3]) {
+    if !image::is_tag(words[3]) {
         return false;
     }
     let s = settings_in(floats, words);
-    rules::are_totals_sound(s, words[4], wide[1], wide[2] as usize)
+    rules::are_totals_sound(s, words[4], wide[0], wide[1] as usize)
 }
 
 // ---- up to the rounds
@@ -49,7 +49,7 @@ pub struct Ahead {
 
 // Track k, whose id has to be `from` or above.
 pub fn ahead_at(
-    wide: &[u64; 67],
+    wide: &[u64; 66],
     floats: &[f32; 10435],
     words: &[u32; 965],
     from: u64,
@@ -60,7 +60,7 @@ pub fn ahead_at(
 {
     let s = settings_in(floats, words);
     let e = from_image::track_at(wide, floats, words, k);
-    let sound = rules::is_sound_at(s, words[4], wide[1], from, e);
+    let sound = rules::is_sound_at(s, words[4], wide[0], from, e);
     if !(image::is_meant_at(wide, floats, words, k) & sound) {
         return Ahead {
             usable: false,
@@ -118,7 +118,7 @@ pub fn tell(
 
 // Zeros past the live tracks, whatever the caller's lists held there, and the totals of the next state.
 pub fn close(
-    wide: &mut [u64; 67],
+    wide: &mut [u64; 66],
     floats: &mut [f32; 10435],
     words: &mut [u32; 965],
     issued: u64,
@@ -130,7 +130,7 @@ pub fn close(
 {
     to_image::lengths(wide, floats, words);
     to_image::clear_from(wide, floats, words, live);
-    wide[1] = issued;
-    wide[2] = live as u64;
+    wide[0] = issued;
+    wide[1] = live as u64;
     words[4] = frames;
 }

@@ -51,7 +51,7 @@ pub track-read : (wide : List ℕ) (fs : List Float) (ws : List ℕ) (k : ℕ) {
     → filter ≡ filter_at fs (3 + 163 * k) → saved ≡ filter_at fs (3 + 163 * k + 56) → frozen ≡ is_set (get_or ws (5 + 15 * k) 0)
     → last ≡ box_at (get_or ws (5 + 15 * k + 4) 0) fs (3 + 163 * k + 112) → list ≡ list_at (get_or ws (5 + 15 * k + 5) 0) fs (3 + 163 * k + 117)
     → direction ≡ direction_at (get_or ws (5 + 15 * k + 6) 0) fs (3 + 163 * k + 121) → kept ≡ kept_at ws (5 + 15 * k + 7) fs (3 + 163 * k + 123)
-    → record { id = get_or wide (3 + k) 0; track = record { filter = filter; saved = saved; frozen = frozen; age = get_or ws (5 + 15 * k + 1) 0; streak = get_or ws (5 + 15 * k + 2) 0; since = get_or ws (5 + 15 * k + 3) 0; last = last; list = list; direction = direction; kept = kept } } ≡ decode_track (cell_at (image_of wide fs ws) k)
+    → record { id = get_or wide (2 + k) 0; track = record { filter = filter; saved = saved; frozen = frozen; age = get_or ws (5 + 15 * k + 1) 0; streak = get_or ws (5 + 15 * k + 2) 0; since = get_or ws (5 + 15 * k + 3) 0; last = last; list = list; direction = direction; kept = kept } } ≡ decode_track (cell_at (image_of wide fs ws) k)
 unfolding decode_track cell_at
 track-read wide fs ws k p-filter p-saved p-frozen p-last p-list p-direction p-kept =
     let f : ℕ = 3 + 163 * k in
@@ -73,7 +73,7 @@ track-read wide fs ws k p-filter p-saved p-frozen p-last p-list p-direction p-ke
     (λ j b. ap (λ (x : LastBox). record { at = x })
     (ap (λ (t : ℕ). box_at t fs (f + 123 + 5 * j)) (word (7 + j) (w + 7 + j) (omega arith) (omega (arith, b))) ∙ box-part fs f 163 (123 + 5 * j) (f + 123 + 5 * j) (omega arith) (get_or ws' (7 + j) 0) (omega (arith, b)))) in
     λ i. record {
-      id = get_or wide (3 + k) 0;
+      id = get_or wide (2 + k) 0;
       track = record {
         filter = (p-filter ∙ e-filter) i;
         saved = (p-saved ∙ e-saved) i;

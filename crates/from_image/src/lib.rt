@@ -93,7 +93,7 @@ fn kept_at(floats: &[f32; 10435], words: &[u32; 965], f: usize, w: usize) -> [Ke
     out
 }
 
-pub fn track_at(wide: &[u64; 67], floats: &[f32; 10435], words: &[u32; 965], k: usize) -> Tracked
+pub fn track_at(wide: &[u64; 66], floats: &[f32; 10435], words: &[u32; 965], k: usize) -> Tracked
     requires { k < 64 }
     ensures { result ≡ decode_track (cell_at (image_of wide.now floats.now words.now) k) }
 {
@@ -112,7 +112,7 @@ pub fn track_at(wide: &[u64; 67], floats: &[f32; 10435], words: &[u32; 965], k: 
         kept: kept_at(floats, words, f + 123, w + 7),
     };
     Tracked {
-        id: wide[3 + k],
+        id: wide[2 + k],
         track,
     }
 }
@@ -147,8 +147,8 @@ pub fn decode(i: TrackerImage) -> Tracker
     Tracker {
         settings,
         frames: words[4],
-        issued: wide[1],
-        count: wide[2] as usize,
+        issued: wide[0],
+        count: wide[1] as usize,
         table,
     }
 }

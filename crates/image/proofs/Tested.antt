@@ -13,7 +13,7 @@ use lib.Seq.{take_all, take_at, get_or-drop}
 use Rattle.lists.specs.Lists.{every, tab}
 use Rattle.lists.proofs.Tab.{length-tab, tab-append}
 use Rattle.image.specs.declared.TrackerImage.{TrackerImage}
-use Rattle.image.specs.Image.{headed, tagged, part, Cell, meant_track, image_of, cell_at, cells, count_in, meant}
+use Rattle.image.specs.Image.{tagged, part, Cell, meant_track, image_of, cell_at, cells, count_in, meant}
 use Rattle.image.proofs.Parts.{part-rest, get_d_part}
 
 -- ---- a list tested one by one
@@ -79,9 +79,9 @@ take-tab {A} f k n h =
     sym (take_at (tab f k) (tab (λ j. f (k + j)) (n - k)) k (length-tab f k)) ∙ ap (take k) (tab-append f k (n - k) ∙ ap (tab f) e)
 
 -- all 64 cells, or as many as the count says, are tested
-pub meant-done : (i : TrackerImage) (k : ℕ) (ok : Bool) → k ≤ 64 → k ≤ count_in i → (k < 64 → count_in i ≤ k) → ok ≡ (headed (get_or i.wide 0 0) (get_or i.words 3 0) && every meant_track (tab (cell_at i) k)) → ok ≡ meant i
+pub meant-done : (i : TrackerImage) (k : ℕ) (ok : Bool) → k ≤ 64 → k ≤ count_in i → (k < 64 → count_in i ≤ k) → ok ≡ (tagged (get_or i.words 3 0) && every meant_track (tab (cell_at i) k)) → ok ≡ meant i
 unfolding meant
-meant-done i k ok h b c p = p ∙ ap (λ (l : List Cell). headed (get_or i.wide 0 0) (get_or i.words 3 0) && every meant_track l) (some (eq-or-lt_of_le h))
+meant-done i k ok h b c p = p ∙ ap (λ (l : List Cell). tagged (get_or i.words 3 0) && every meant_track l) (some (eq-or-lt_of_le h))
   where
     some : (k ≡ 64) ⊎ (k < 64) → tab (cell_at i) k ≡ take (count_in i) (cells i)
     some (inl e) = rw e (sym (take_all (count_in i) (tab (cell_at i) 64) (omega (arith, length-tab (cell_at i) 64))))

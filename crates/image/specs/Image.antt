@@ -1,6 +1,6 @@
 -- The state as C and Rust pass it: three lists of numbers, one for each type. What stands in the lists of a state, what state lists stand for, and which mean something. Definitions only.
 --
--- wide, 67: the layout's number, ids issued, tracks, and each track's id
+-- wide, 66: ids issued, tracks, and each track's id
 -- floats, 10,435: det_thresh, iou_threshold, inertia, and 163 of each track: its filter (7 and 49), the saved one, its last box (5), the list's box (4), its direction (2), its kept boxes (5 each)
 -- words, 965: max_age, min_hits, delta_t, use_byte, frames, and 15 of each track: frozen, age, streak, since, and the tags of its last box, the list's box, its direction and its kept boxes
 use Rattle.std.specs.Prelude.{◌≡◌, Bool, true, false, not, ◌&&◌, List, [], ◌∷◌, ◌++◌, map, ℕ, ◌+◌, ◌-◌, ◌*◌, eqb, leb, Float, length, take, drop, get_or, set, replicate}
@@ -35,16 +35,6 @@ is_set n = not (eqb n 0)
 -- a tag means something: 0 or 1
 abbrev pub tagged : ℕ → Bool
 tagged n = leb n 1
-
--- ---- the head of the lists
-
--- this layout's number. Another one has another number, or none: what stood first before there were numbers, the ids issued, is at most 64,000,000
-abbrev pub layout : ℕ
-layout = 1000000001
-
--- the lists are of this layout, and use_byte means something
-abbrev pub headed : ℕ → ℕ → Bool
-headed number byte = eqb number layout && tagged byte
 
 -- ---- the numbers of a filter, and the filter whose numbers start at k
 
@@ -159,19 +149,16 @@ part from n l = take n (drop from l)
 
 -- what it holds of track k
 unfoldable pub cell_at : TrackerImage → ℕ → Cell
-cell_at i k = record { id = get_or i.wide (3 + k) 0; floats = part (3 + 163 * k) 163 i.floats; words = part (5 + 15 * k) 15 i.words }
+cell_at i k = record { id = get_or i.wide (2 + k) 0; floats = part (3 + 163 * k) 163 i.floats; words = part (5 + 15 * k) 15 i.words }
 
 abbrev pub cells : TrackerImage → List Cell
 cells i = tab (cell_at i) 64
 
-abbrev pub layout_in : TrackerImage → ℕ
-layout_in i = get_or i.wide 0 0
-
 abbrev pub issued_in : TrackerImage → ℕ
-issued_in i = get_or i.wide 1 0
+issued_in i = get_or i.wide 0 0
 
 abbrev pub count_in : TrackerImage → ℕ
-count_in i = get_or i.wide 2 0
+count_in i = get_or i.wide 1 0
 
 abbrev pub byte_in : TrackerImage → ℕ
 byte_in i = get_or i.words 3 0
@@ -203,18 +190,18 @@ unfoldable pub encode_tracker : Tracker → TrackerImage
 encode_tracker t =
     let s = t.settings in
     record {
-      wide = layout ∷ t.issued ∷ t.count ∷ map id_of t.table;
+      wide = t.issued ∷ t.count ∷ map id_of t.table;
       floats = s.det_thresh ∷ s.iou_threshold ∷ s.inertia ∷ flat floats_of t.table;
       words = s.max_age ∷ s.min_hits ∷ s.delta_t ∷ flag_of s.use_byte ∷ t.frames ∷ flat words_of t.table;
     }
 
--- its head means something, and so does each of the first `count` tracks
+-- use_byte means something, and so does each of the first `count` tracks
 unfoldable pub meant : TrackerImage → Bool
-meant i = headed (layout_in i) (byte_in i) && every meant_track (take (count_in i) (cells i))
+meant i = tagged (byte_in i) && every meant_track (take (count_in i) (cells i))
 
 -- the lists have the lengths of their types
 pub record Whole (i : TrackerImage) : Type 0 where
-  pub wide : length i.wide ≡ 67
+  pub wide : length i.wide ≡ 66
   pub floats : length i.floats ≡ 10435
   pub words : length i.words ≡ 965
 
@@ -222,14 +209,14 @@ pub record Whole (i : TrackerImage) : Type 0 where
 
 -- i' is i with this track in cell k, whose numbers fill it
 pub record Put (k : ℕ) (e : Tracked) (i i' : TrackerImage) : Type 0 where
-  pub wide : i'.wide ≡ set i.wide (3 + k) (id_of e)
+  pub wide : i'.wide ≡ set i.wide (2 + k) (id_of e)
   pub floats : i'.floats ≡ sets i.floats (3 + 163 * k) (floats_of e)
   pub words : i'.words ≡ sets i.words (5 + 15 * k) (words_of e)
   pub full : (length (floats_of e) ≡ 163) × (length (words_of e) ≡ 15)
 
 -- i' is i with zeros in the cells from k on
 pub record Cleared (k : ℕ) (i i' : TrackerImage) : Type 0 where
-  pub wide : i'.wide ≡ sets i.wide (3 + k) (replicate (64 - k) 0)
+  pub wide : i'.wide ≡ sets i.wide (2 + k) (replicate (64 - k) 0)
   pub floats : i'.floats ≡ sets i.floats (3 + 163 * k) (replicate (163 * (64 - k)) f0)
   pub words : i'.words ≡ sets i.words (5 + 15 * k) (replicate (15 * (64 - k)) 0)
 

@@ -2,16 +2,13 @@
 #![tactic(auto)]
 
 ghost use Rattle.std.specs.Prelude.{◌≡◌, ◌<◌};
-ghost use Rattle.image.specs.Image.{headed, is_set, tagged, meant_track, image_of, cell_at, meant};
+ghost use Rattle.image.specs.Image.{is_set, tagged, meant_track, image_of, cell_at, meant};
 
-// The number of this layout, which stands first in an image.
-pub const LAYOUT: u64 = 1_000_000_001;
-
-// The whole state, in 46,136 bytes without padding. What stands where: specs/Image.antt.
+// The whole state, in 46,128 bytes without padding. What stands where: specs/Image.antt.
 #[repr(C)]
 #[derive(Clone, Copy)]
 pub struct TrackerImage {
-    pub wide: [u64; 67],
+    pub wide: [u64; 66],
     pub floats: [f32; 10435],
     pub words: [u32; 965],
 }
@@ -32,15 +29,8 @@ pub fn is_tag(n: u32) -> bool
 
 // ---- meaning
 
-// Whether the head of an image means something: its layout's number and its use_byte.
-pub fn is_headed(number: u64, use_byte: u32) -> bool
-    ensures { result ≡ headed number use_byte }
-{
-    (number == LAYOUT) & is_tag(use_byte)
-}
-
 // Whether all tags of track k mean something.
-pub fn is_meant_at(wide: &[u64; 67], floats: &[f32; 10435], words: &[u32; 965], k: usize) -> bool
+pub fn is_meant_at(wide: &[u64; 66], floats: &[f32; 10435], words: &[u32; 965], k: usize) -> bool
     requires { k < 64 }
     ensures { result ≡ meant_track (cell_at (image_of wide.now floats.now words.now) k) }
 {
@@ -61,8 +51,8 @@ pub fn is_meant(i: TrackerImage) -> bool
     let wide = i.wide;
     let floats = i.floats;
     let words = i.words;
-    let mut ok = is_headed(wide[0], words[3]);
-    let count = wide[2];
+    let mut ok = is_tag(words[3]);
+    let count = wide[1];
     let mut k = 0usize;
     while k < 64 {
         if count <= k as u64 {

@@ -33,7 +33,7 @@ pub fn told(outcome: Outcome) -> u64
 }
 
 // Writes the tracker that was made, or nothing where its settings were refused.
-fn begin(wide: &mut [u64; 67], floats: &mut [f32; 10435], words: &mut [u32; 965], made: Made) -> u64
+fn begin(wide: &mut [u64; 66], floats: &mut [f32; 10435], words: &mut [u32; 965], made: Made) -> u64
     ensures { (result ≡ (fresh_of made).number) × (image_of wide.new floats.new words.new ≡ begun (image_of wide.old floats.old words.old) (fresh_of made)) }
 {
     let outcome = made.outcome;
@@ -47,7 +47,7 @@ fn begin(wide: &mut [u64; 67], floats: &mut [f32; 10435], words: &mut [u32; 965]
 
 // A tracker with all seven settings, in place: 0, or 2 and the lists as they were.
 pub fn with_settings(
-    wide: &mut [u64; 67],
+    wide: &mut [u64; 66],
     floats: &mut [f32; 10435],
     words: &mut [u32; 965],
     settings: SettingsImage,
@@ -71,7 +71,7 @@ pub fn with_settings(
 
 // A tracker with the Rust's defaults, in place: 0, or 2 and the lists as they were.
 pub fn new(
-    wide: &mut [u64; 67],
+    wide: &mut [u64; 66],
     floats: &mut [f32; 10435],
     words: &mut [u32; 965],
     det_thresh: f32,

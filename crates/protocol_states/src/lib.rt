@@ -127,7 +127,7 @@ fn put_head(out: &mut [u8], at: usize, wide: &[u64], words: &[u32], k: usize) ->
 {
     let w = 5 + 15 * k;
     let mut p = protocol_words::put_text(out, at, b"track");
-    p = put_count(out, p, wide_at(wide, 3 + k));
+    p = put_count(out, p, wide_at(wide, 2 + k));
     p = put_word(out, p, words, w + 1);
     p = put_word(out, p, words, w + 2);
     p = put_word(out, p, words, w + 3);
@@ -157,7 +157,7 @@ fn held(count: u64) -> usize
 fn put_tracks(
     out: &mut [u8],
     at: usize,
-    wide: &[u64; 67],
+    wide: &[u64; 66],
     floats: &[f32; 10435],
     words: &[u32; 965],
     n: usize,
@@ -179,11 +179,11 @@ pub fn put_state(out: &mut [u8], at: usize, i: TrackerImage) -> usize {
     let wide = i.wide;
     let floats = i.floats;
     let words = i.words;
-    let n = held(wide[2]);
+    let n = held(wide[1]);
     let mut p = protocol_words::put_text(out, at, b"state");
     p = put_count(out, p, words[4] as u64);
+    p = put_count(out, p, wide[0]);
     p = put_count(out, p, wide[1]);
-    p = put_count(out, p, wide[2]);
     p = protocol_words::put(out, p, b'\n');
     p = put_tracks(out, p, &wide, &floats, &words, n);
     protocol_words::put_text(out, p, b"end\n")

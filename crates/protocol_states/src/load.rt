@@ -50,12 +50,11 @@ pub fn settings(line: &[u8], at: usize) -> Given {
 
 // The lists of a state with these settings and totals, and no track.
 fn empty(s: Settings, frames: u32, issued: u64, count: u64) -> TrackerImage {
-    let mut wide = [0u64; 67];
+    let mut wide = [0u64; 66];
     let mut floats = [0.0f32; 10435];
     let mut words = [0u32; 965];
-    wide[0] = image::LAYOUT;
-    wide[1] = issued;
-    wide[2] = count;
+    wide[0] = issued;
+    wide[1] = count;
     floats[0] = s.det_thresh;
     floats[1] = s.iou_threshold;
     floats[2] = s.inertia;
@@ -129,7 +128,7 @@ fn with_head(text: &[u8], i: TrackerImage, k: usize) -> Read
     let h = read_head(text);
     let w = 5 + 15 * k;
     let mut image = i;
-    image.wide[3 + k] = h.id;
+    image.wide[2 + k] = h.id;
     image.words[w] = h.frozen;
     image.words[w + 1] = h.age;
     image.words[w + 2] = h.streak;
@@ -265,5 +264,5 @@ pub fn take(text: &[u8], l: Loading) -> Loading {
 pub fn is_whole(l: Loading) -> bool {
     let image = l.image;
     let wide = image.wide;
-    l.good & (l.line == LINES) & (l.index == held(wide[2]))
+    l.good & (l.line == LINES) & (l.index == held(wide[1]))
 }

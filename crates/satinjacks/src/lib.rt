@@ -21,7 +21,7 @@ use update_in_lists::Reply;
 // One frame, in place: a refusal leaves lists and buffers as they were.
 #[unsafe(no_mangle)]
 pub extern "C" fn satinjacks_update_lists(
-    wide: &mut [u64; 67],
+    wide: &mut [u64; 66],
     floats: &mut [f32; 10435],
     words: &mut [u32; 965],
     input: &[f32],
@@ -38,7 +38,7 @@ pub extern "C" fn satinjacks_update_lists(
 // A tracker with all seven settings, in place: 0, or 2 and the lists as they were.
 #[unsafe(no_mangle)]
 pub extern "C" fn satinjacks_with_settings_lists(
-    wide: &mut [u64; 67],
+    wide: &mut [u64; 66],
     floats: &mut [f32; 10435],
     words: &mut [u32; 965],
     settings: SettingsImage,
@@ -51,7 +51,7 @@ pub extern "C" fn satinjacks_with_settings_lists(
 // A tracker with the Rust's defaults, in place: 0, or 2 and the lists as they were.
 #[unsafe(no_mangle)]
 pub extern "C" fn satinjacks_new_lists(
-    wide: &mut [u64; 67],
+    wide: &mut [u64; 66],
     floats: &mut [f32; 10435],
     words: &mut [u32; 965],
     det_thresh: f32,

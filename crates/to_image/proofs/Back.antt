@@ -200,7 +200,7 @@ cell-back : (t : Tracker) (k : ℕ) → All Full t.table → k < length t.table 
 unfolding cell_at encode_tracker blank encode_track
 cell-back t k a h =
     let i = encode_tracker t in
-    let w = sym (get_or-drop 3 i.wide k 0) ∙ get_or-map id_of t.table k blank in
+    let w = sym (get_or-drop 2 i.wide k 0) ∙ get_or-map id_of t.table k blank in
     let f = ap (take 163) (sym (drop-drop (163 * k) 3 i.floats)) ∙ sym (flat-part floats_of 163 t.table k blank (all_weaker Full (λ e. length (floats_of e) ≡ 163) (λ e h. h.0) t.table a) h) in
     let s = ap (take 15) (sym (drop-drop (15 * k) 5 i.words)) ∙ sym (flat-part words_of 15 t.table k blank (all_weaker Full (λ e. length (words_of e) ≡ 15) (λ e h. h.1) t.table a) h) in
     (λ j. record { id = w j; floats = f j; words = s j })

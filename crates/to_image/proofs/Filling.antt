@@ -20,7 +20,7 @@ use Rattle.frame.specs.declared.Tracker.{Tracker}
 use Rattle.frame.specs.State.{blank, state_of}
 use Rattle.image.specs.declared.TrackerImage.{TrackerImage}
 use Rattle.to_image.proofs.Sets.{sets-next}
-use Rattle.image.specs.Image.{f0, layout, headed, flag_of, is_set, tagged, encode_track, id_of, floats_of, words_of, image_of, encode_tracker, decode_tracker, Put, Cleared}
+use Rattle.image.specs.Image.{f0, flag_of, is_set, tagged, encode_track, id_of, floats_of, words_of, image_of, encode_tracker, decode_tracker, Put, Cleared}
 
 -- ---- lists written part by part
 
@@ -54,7 +54,7 @@ abbrev pub Full : Tracked → Type 0
 Full e = (length (floats_of e) ≡ 163) × (length (words_of e) ≡ 15)
 
 abbrev pub filled_to : TrackerImage → List Tracked → TrackerImage
-filled_to i es = image_of (sets i.wide 3 (map id_of es)) (sets i.floats 3 (flat floats_of es)) (sets i.words 5 (flat words_of es))
+filled_to i es = image_of (sets i.wide 2 (map id_of es)) (sets i.floats 3 (flat floats_of es)) (sets i.words 5 (flat words_of es))
 
 pub floats-long : (es : List Tracked) → All Full es → length (flat floats_of es) ≡ 163 * length es
 floats-long es a = flat-long floats_of 163 es (all_weaker Full (λ e. length (floats_of e) ≡ 163) (λ e h. h.0) es a)
@@ -67,12 +67,12 @@ filled_none i = refl
 
 -- more tracks after these: their numbers written where those of these end
 filled_on : (i i₁ i₂ : TrackerImage) (es more : List Tracked) (m : ℕ) → i₁ ≡ filled_to i es → m ≡ length es → All Full es
-    → i₂.wide ≡ sets i₁.wide (3 + m) (map id_of more)
+    → i₂.wide ≡ sets i₁.wide (2 + m) (map id_of more)
     → i₂.floats ≡ sets i₁.floats (3 + 163 * m) (flat floats_of more)
     → i₂.words ≡ sets i₁.words (5 + 15 * m) (flat words_of more)
     → i₂ ≡ filled_to i (es ++ more)
 filled_on i i₁ i₂ es more m e n a w f s =
-    let w' = sets-next i.wide i₁.wide i₂.wide 3 (3 + m) (map id_of es) (map id_of more) (ap (λ x. x.wide) e) (omega (arith, n, length-map es id_of)) w ∙ ap (sets i.wide 3) (sym (map-append id_of es more)) in
+    let w' = sets-next i.wide i₁.wide i₂.wide 2 (2 + m) (map id_of es) (map id_of more) (ap (λ x. x.wide) e) (omega (arith, n, length-map es id_of)) w ∙ ap (sets i.wide 2) (sym (map-append id_of es more)) in
     let f' = sets-next i.floats i₁.floats i₂.floats 3 (3 + 163 * m) (flat floats_of es) (flat floats_of more) (ap (λ x. x.floats) e) (omega (arith, n, floats-long es a)) f ∙ ap (sets i.floats 3) (sym (flat_append floats_of es more)) in
     let s' = sets-next i.words i₁.words i₂.words 5 (5 + 15 * m) (flat words_of es) (flat words_of more) (ap (λ x. x.words) e) (omega (arith, n, words_long es a)) s ∙ ap (sets i.words 5) (sym (flat_append words_of es more)) in
     (λ j. image_of (w' j) (f' j) (s' j))
@@ -104,16 +104,16 @@ blank-full = (ap length blank-floats, ap length blank-words)
 pub filled-clear : (i i₁ i₂ : TrackerImage) (es : List Tracked) (m : ℕ) → i₁ ≡ filled_to i es → All Full es → length es ≡ m → m ≤ 64 → Cleared m i₁ i₂ → i₂ ≡ filled_to i (es ++ replicate (64 - m) blank)
 filled-clear i i₁ i₂ es m h a n b p =
     filled_on i i₁ i₂ es (replicate (64 - m) blank) m h (sym n) a
-    (p.wide ∙ ap (sets i₁.wide (3 + m)) (sym (map-replicate id_of blank (64 - m) ∙ ap (replicate (64 - m)) blank-id)))
+    (p.wide ∙ ap (sets i₁.wide (2 + m)) (sym (map-replicate id_of blank (64 - m) ∙ ap (replicate (64 - m)) blank-id)))
     (p.floats ∙ ap (sets i₁.floats (3 + 163 * m)) (sym (flat-replicate floats_of blank f0 163 blank-floats (64 - m))))
     (p.words ∙ ap (sets i₁.words (5 + 15 * m)) (sym (flat-replicate words_of blank 0 15 blank-words (64 - m))))
 
 -- ---- all 64 cells
 
-pub filled-whole : (i : TrackerImage) (es : List Tracked) → length es ≡ 64 → All Full es → length i.wide ≡ 67 → length i.floats ≡ 10435 → length i.words ≡ 965
-    → ((filled_to i es).wide ≡ take 3 i.wide ++ map id_of es) × ((filled_to i es).floats ≡ take 3 i.floats ++ flat floats_of es) × ((filled_to i es).words ≡ take 5 i.words ++ flat words_of es)
+pub filled-whole : (i : TrackerImage) (es : List Tracked) → length es ≡ 64 → All Full es → length i.wide ≡ 66 → length i.floats ≡ 10435 → length i.words ≡ 965
+    → ((filled_to i es).wide ≡ take 2 i.wide ++ map id_of es) × ((filled_to i es).floats ≡ take 3 i.floats ++ flat floats_of es) × ((filled_to i es).words ≡ take 5 i.words ++ flat words_of es)
 filled-whole i es n a w f s = (
-  sets-whole (map id_of es) i.wide 3 (omega (arith, n, w, length-map es id_of)),
+  sets-whole (map id_of es) i.wide 2 (omega (arith, n, w, length-map es id_of)),
   sets-whole (flat floats_of es) i.floats 3 (omega (arith, n, f, floats-long es a)),
   sets-whole (flat words_of es) i.words 5 (omega (arith, n, s, words_long es a)),
 )
@@ -124,19 +124,11 @@ flag-of zero h = refl
 flag-of (suc zero) h = refl
 flag-of (suc (suc n)) h = let z : suc (suc n) ≤ 1 = leb-true (suc (suc n)) 1 h in absurd (omega (arith, z))
 
--- what a head that means something says
-head-layout : (number byte : ℕ) → headed number byte ≡ true → number ≡ layout
-head-layout number byte h = eqb-true number layout (and_left (eqb number layout) (tagged byte) h)
-
-head-tagged : (number byte : ℕ) → headed number byte ≡ true → tagged byte ≡ true
-head-tagged number byte h = and_right (eqb number layout) (tagged byte) h
-
 -- the front of a list and what stands behind it, after stores in the front
-front-wide : (l r : List ℕ) (issued count : ℕ) → 3 ≤ length l → get_or l 0 0 ≡ layout → set (set (take 3 l ++ r) 1 issued) 2 count ≡ layout ∷ issued ∷ count ∷ r
-front-wide [] r issued count h g = absurd (omega (arith, h))
-front-wide (a ∷ []) r issued count h g = absurd (omega (arith, h))
-front-wide (a ∷ b ∷ []) r issued count h g = absurd (omega (arith, h))
-front-wide (a ∷ b ∷ c ∷ l) r issued count h g = ap (λ (n : ℕ). n ∷ issued ∷ count ∷ r) g
+front-wide : (l r : List ℕ) (issued count : ℕ) → 2 ≤ length l → set (set (take 2 l ++ r) 0 issued) 1 count ≡ issued ∷ count ∷ r
+front-wide [] r issued count h = absurd (omega (arith, h))
+front-wide (a ∷ []) r issued count h = absurd (omega (arith, h))
+front-wide (a ∷ b ∷ l) r issued count h = refl
 
 front-floats : (l r : List Float) → 3 ≤ length l → take 3 l ++ r ≡ get_or l 0 nan ∷ get_or l 1 nan ∷ get_or l 2 nan ∷ r
 front-floats [] r h = absurd (omega (arith, h))
@@ -154,17 +146,17 @@ front-words (a ∷ b ∷ c ∷ d ∷ []) r frames h g = absurd (omega (arith, h)
 front-words (a ∷ b ∷ c ∷ d ∷ e ∷ l) r frames h g = ap (λ (n : ℕ). a ∷ b ∷ c ∷ n ∷ frames ∷ r) (flag-of d g)
 
 -- all tracks written, the cells past them cleared, and the new totals: the image of the state of these tracks
-pub encoded : (i : TrackerImage) (es : List Tracked) (issued frames : ℕ) → length i.wide ≡ 67 → length i.floats ≡ 10435 → length i.words ≡ 965 → length es ≤ 64 → All Full es → headed (get_or i.wide 0 0) (get_or i.words 3 0) ≡ true
-    → image_of (set (set (filled_to i (es ++ replicate (64 - length es) blank)).wide 1 issued) 2 (length es)) (filled_to i (es ++ replicate (64 - length es) blank)).floats (set (filled_to i (es ++ replicate (64 - length es) blank)).words 4 frames)
+pub encoded : (i : TrackerImage) (es : List Tracked) (issued frames : ℕ) → length i.wide ≡ 66 → length i.floats ≡ 10435 → length i.words ≡ 965 → length es ≤ 64 → All Full es → tagged (get_or i.words 3 0) ≡ true
+    → image_of (set (set (filled_to i (es ++ replicate (64 - length es) blank)).wide 0 issued) 1 (length es)) (filled_to i (es ++ replicate (64 - length es) blank)).floats (set (filled_to i (es ++ replicate (64 - length es) blank)).words 4 frames)
     ≡ encode_tracker (state_of (decode_tracker i).settings frames issued es)
 unfolding state_of encode_tracker decode_tracker
 encoded i es issued frames w f s b a g =
     let none : List Tracked = replicate (64 - length es) blank in
     let all : List Tracked = es ++ none in
     let whole = filled-whole i all (omega (arith, b, length-append es none, length-replicate (64 - length es) blank)) (all_append Full es none a (all_replicate Full blank blank-full (64 - length es))) w f s in
-    let w' = ap (λ (l : List ℕ). set (set l 1 issued) 2 (length es)) whole.0 ∙ front-wide i.wide (map id_of all) issued (length es) (omega (arith, w)) (head-layout (get_or i.wide 0 0) (get_or i.words 3 0) g) in
+    let w' = ap (λ (l : List ℕ). set (set l 0 issued) 1 (length es)) whole.0 ∙ front-wide i.wide (map id_of all) issued (length es) (omega (arith, w)) in
     let f' = whole.1 ∙ front-floats i.floats (flat floats_of all) (omega (arith, f)) in
-    let s' = ap (λ (l : List ℕ). set l 4 frames) whole.2 ∙ front-words i.words (flat words_of all) frames (omega (arith, s)) (head-tagged (get_or i.wide 0 0) (get_or i.words 3 0) g) in
+    let s' = ap (λ (l : List ℕ). set l 4 frames) whole.2 ∙ front-words i.words (flat words_of all) frames (omega (arith, s)) g in
     (λ j. image_of (w' j) (f' j) (s' j))
 
 -- ---- a state written over whatever the lists held
@@ -180,12 +172,12 @@ take-sets : {A : Type 0} (xs l : List A) → length xs ≤ length l → take (le
 take-sets {A} xs l h = ap (take (length xs)) (sets-eq xs l 0 (omega (arith, h))) ∙ take-append_seam xs (drop (0 + length xs) l)
 
 -- all of it, with the settings and the totals in front
-pub written : (i : TrackerImage) (wide words : List ℕ) (floats : List Float) (t : Tracker) (k tag : ℕ) → length wide ≡ 67 → length floats ≡ 10435 → length words ≡ 965 → length t.table ≡ 64 → k ≡ 64 → tag ≡ flag_of t.settings.use_byte → All Full (take k t.table)
-    → i ≡ filled_to (image_of (sets wide 0 (layout ∷ t.issued ∷ t.count ∷ [])) (sets floats 0 (t.settings.det_thresh ∷ t.settings.iou_threshold ∷ t.settings.inertia ∷ [])) (sets words 0 (t.settings.max_age ∷ t.settings.min_hits ∷ t.settings.delta_t ∷ tag ∷ t.frames ∷ []))) (take k t.table)
+pub written : (i : TrackerImage) (wide words : List ℕ) (floats : List Float) (t : Tracker) (k tag : ℕ) → length wide ≡ 66 → length floats ≡ 10435 → length words ≡ 965 → length t.table ≡ 64 → k ≡ 64 → tag ≡ flag_of t.settings.use_byte → All Full (take k t.table)
+    → i ≡ filled_to (image_of (sets wide 0 (t.issued ∷ t.count ∷ [])) (sets floats 0 (t.settings.det_thresh ∷ t.settings.iou_threshold ∷ t.settings.inertia ∷ [])) (sets words 0 (t.settings.max_age ∷ t.settings.min_hits ∷ t.settings.delta_t ∷ tag ∷ t.frames ∷ []))) (take k t.table)
     → i ≡ encode_tracker t
 unfolding encode_tracker
 written i wide words floats t k tag w f s n e g a h =
-    let ws = layout ∷ t.issued ∷ t.count ∷ [] in
+    let ws = t.issued ∷ t.count ∷ [] in
     let fs = t.settings.det_thresh ∷ t.settings.iou_threshold ∷ t.settings.inertia ∷ [] in
     let ss = t.settings.max_age ∷ t.settings.min_hits ∷ t.settings.delta_t ∷ tag ∷ t.frames ∷ [] in
     let i₀ : TrackerImage = image_of (sets wide 0 ws) (sets floats 0 fs) (sets words 0 ss) in

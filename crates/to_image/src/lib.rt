@@ -127,7 +127,7 @@ fn put_kept(floats: &mut [f32; 10435], words: &mut [u32; 965], f: usize, w: usiz
 }
 
 pub fn put_track(
-    wide: &mut [u64; 67],
+    wide: &mut [u64; 66],
     floats: &mut [f32; 10435],
     words: &mut [u32; 965],
     k: usize,
@@ -144,7 +144,7 @@ pub fn put_track(
     let last = t.last;
     let list = t.list;
     let direction = t.direction;
-    wide[3 + k] = e.id;
+    wide[2 + k] = e.id;
     put_filter(floats, f, filter);
     put_filter(floats, f + 56, saved);
     words[w] = flag(t.frozen);
@@ -158,12 +158,12 @@ pub fn put_track(
 }
 
 // Zeros in the cells from k on: three runs, which compile to one memset each.
-pub fn clear_from(wide: &mut [u64; 67], floats: &mut [f32; 10435], words: &mut [u32; 965], k: usize)
+pub fn clear_from(wide: &mut [u64; 66], floats: &mut [f32; 10435], words: &mut [u32; 965], k: usize)
     requires { k ≤ 64 }
     ensures { Cleared k (image_of wide.old floats.old words.old) (image_of wide.new floats.new words.new) }
 {
-    let mut a = 3 + k;
-    while a < 67 {
+    let mut a = 2 + k;
+    while a < 66 {
         wide[a] = 0;
         a += 1;
     }
@@ -182,7 +182,7 @@ pub fn clear_from(wide: &mut [u64; 67], floats: &mut [f32; 10435], words: &mut [
 // ---- the tracker
 
 // Does nothing, and ensures that the lists have the lengths of their types: a list as a slice tells its length.
-pub fn lengths(wide: &[u64; 67], floats: &[f32; 10435], words: &[u32; 965])
+pub fn lengths(wide: &[u64; 66], floats: &[f32; 10435], words: &[u32; 965])
     ensures { Whole (image_of wide.now floats.now words.now) }
 {
     let w: &[u64] = wide;
@@ -191,14 +191,13 @@ pub fn lengths(wide: &[u64; 67], floats: &[f32; 10435], words: &[u32; 965])
 }
 
 // Writes the image of a state over whatever the lists held.
-pub fn put(wide: &mut [u64; 67], floats: &mut [f32; 10435], words: &mut [u32; 965], t: Tracker)
+pub fn put(wide: &mut [u64; 66], floats: &mut [f32; 10435], words: &mut [u32; 965], t: Tracker)
     ensures { image_of wide.new floats.new words.new ≡ encode_tracker t }
 {
     lengths(wide, floats, words);
     let s = t.settings;
-    wide[0] = image::LAYOUT;
-    wide[1] = t.issued;
-    wide[2] = t.count as u64;
+    wide[0] = t.issued;
+    wide[1] = t.count as u64;
     floats[0] = s.det_thresh;
     floats[1] = s.iou_threshold;
     floats[2] = s.inertia;
@@ -219,7 +218,7 @@ pub fn put(wide: &mut [u64; 67], floats: &mut [f32; 10435], words: &mut [u32; 96
 pub fn encode(t: Tracker) -> TrackerImage
     ensures { result ≡ encode_tracker t }
 {
-    let mut wide = [0; 67];
+    let mut wide = [0; 66];
     let mut floats = [0.0; 10435];
     let mut words = [0; 965];
     put(&mut wide, &mut floats, &mut words, t);

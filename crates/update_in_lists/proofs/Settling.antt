@@ -46,7 +46,7 @@ use Rattle.reports.proofs.Writing as writing
 use Rattle.settling.specs.Settled.{Ready}
 use Rattle.settling.proofs.Ids.{low-joined}
 use Rattle.image.specs.declared.TrackerImage.{TrackerImage}
-use Rattle.image.specs.Image.{headed, layout_in, byte_in, issued_in, count_in, frames_in, decode_tracker, encode_tracker, meant, Put}
+use Rattle.image.specs.Image.{tagged, byte_in, issued_in, count_in, frames_in, decode_tracker, encode_tracker, meant, Put}
 use Rattle.to_image.proofs.Filling.{Full}
 use Rattle.frame_in_lists.specs.InPlace.{settings_in, ToldOf, Closed}
 use Rattle.frame_in_lists.proofs.Turns.{Holds, holds_at, Keeping, keeping_none, still, keeping-taken, keeping-left, young, young-taken, young-left, born-more}
@@ -74,9 +74,9 @@ pub record Open (i : TrackerImage) (s : Settings) (input boxes : List Float) (id
   pub unrefused : early (decode_tracker i).frames (call_of input boxes ids) ≡ none
 
 module _ {i : TrackerImage} {s : Settings} {input boxes : List Float} {ids : List ℕ} (o : Open i s input boxes ids) where
-  pub head : headed (layout_in i) (byte_in i) ≡ true
+  pub head : tagged (byte_in i) ≡ true
   unfolding meant
-  head = and_left (headed (layout_in i) (byte_in i)) _ (and_left (meant i) (state_rules (decode_tracker i)) o.fine)
+  head = and_left (tagged (byte_in i)) _ (and_left (meant i) (state_rules (decode_tracker i)) o.fine)
 
   pub is-clear : Clear (decode_tracker i).frames (call_of input boxes ids)
   is-clear = clear (decode_tracker i).frames (call_of input boxes ids) o.unrefused

@@ -21,7 +21,7 @@ fn replied(number: u64, count: usize) -> Reply
 
 // One frame, in place: a refusal leaves lists and buffers as they were. The tracks wait in a table of its own, and are written back once no refusal can come.
 pub fn update(
-    wide: &mut [u64; 67],
+    wide: &mut [u64; 66],
     floats: &mut [f32; 10435],
     words: &mut [u32; 965],
     input: &[f32],
@@ -35,8 +35,8 @@ pub fn update(
     }
     let s = frame_in_lists::settings_in(floats, words);
     let frames = words[4];
-    let issued = wide[1];
-    let count = wide[2] as usize;
+    let issued = wide[0];
+    let count = wide[1] as usize;
     let blank = one_track::blank();
     let mut table = [blank; 64];
     let nan = detections::nan();

@@ -6,31 +6,28 @@ use Prim.Native.Nat.{◌-◌, ◌≤◌}
 use native.Mathlib.Omega.{arith}
 use lib.ListN.{get_or}
 use Rattle.lists.specs.Lists.{every, tab}
-use Rattle.image.specs.Image.{headed, meant_track, image_of, cell_at}
+use Rattle.image.specs.Image.{tagged, meant_track, image_of, cell_at}
 use Rattle.image.proofs.Tested.{and-true, every-turn, meant-done}
 use Rattle.image.proofs.is_meant.Statement.{statement}
 use Rattle.image.proofs.is_meant.Tie as tie
 
 abbrev invariant-loop : tie.invariant-loop
-invariant-loop wide floats words ok₀ count k₀ ok k = (k ≤ 64) × ((k ≤ count) × (ok ≡ (headed (get_or wide 0 0) (get_or words 3 0) && every meant_track (tab (cell_at (image_of wide floats words)) k))))
+invariant-loop wide floats words ok₀ count k₀ ok k = (k ≤ 64) × ((k ≤ count) × (ok ≡ (tagged (get_or words 3 0) && every meant_track (tab (cell_at (image_of wide floats words)) k))))
 
 abbrev decreases-loop : tie.decreases-loop
 decreases-loop wide floats words ok₀ count k₀ ok k = 64 - k
 
-array-read-is-headed : tie.Need-array-read-is-headed invariant-loop decreases-loop
-array-read-is-headed c = search rules
+array-read-is-tag : tie.Need-array-read-is-tag invariant-loop decreases-loop
+array-read-is-tag c = search rules
 
-array-read-is-headed-2 : tie.Need-array-read-is-headed-2 invariant-loop decreases-loop
-array-read-is-headed-2 c = search rules
-
-is-headed-requires : tie.Need-is-headed-requires invariant-loop decreases-loop
-is-headed-requires c κs = search rules
+is-tag-requires : tie.Need-is-tag-requires invariant-loop decreases-loop
+is-tag-requires c κs = search rules
 
 array-read-count : tie.Need-array-read-count invariant-loop decreases-loop
 array-read-count c = search rules
 
 loop-holds : tie.Need-loop-init invariant-loop decreases-loop
-loop-holds c = (search rules, (search rules, c.is-headed.ensures ∙ sym (and-true _)))
+loop-holds c = (search rules, (search rules, c.is-tag.ensures ∙ sym (and-true _)))
 
 returns : tie.Need-returns invariant-loop decreases-loop
 returns c =
@@ -50,7 +47,7 @@ loop-again : tie.Need-loop-preserved invariant-loop decreases-loop
 loop-again c =
     let l = c.before.before.before.before.before.before.loop in
     let i = c.before.before.before.before.before.before.before.before.before.before.before.args.i in
-    (search rules, (search rules, every-turn meant_track (headed (get_or i.wide 0 0) (get_or i.words 3 0)) (cell_at i) l.ok _ l.k l.invariant.1.1 c.is-meant-at.ensures))
+    (search rules, (search rules, every-turn meant_track (tagged (get_or i.words 3 0)) (cell_at i) l.ok _ l.k l.invariant.1.1 c.is-meant-at.ensures))
 
 returns-2 : tie.Need-returns-2 invariant-loop decreases-loop
 returns-2 c =
@@ -63,9 +60,8 @@ is-meant-spec =
     (tie.spec
     invariant-loop
     decreases-loop
-    array-read-is-headed
-    array-read-is-headed-2
-    is-headed-requires
+    array-read-is-tag
+    is-tag-requires
     array-read-count
     loop-holds
     returns

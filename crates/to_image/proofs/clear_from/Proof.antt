@@ -11,10 +11,10 @@ use Rattle.to_image.proofs.clear_from.Statement.{statement}
 use Rattle.to_image.proofs.clear_from.Tie as tie
 
 abbrev invariant-loop : tie.invariant-loop
-invariant-loop wide₀ floats words k a₀ wide a = (a₀ ≤ a) × (a ≤ 67) × (wide ≡ sets wide₀ a₀ (replicate (a - a₀) 0))
+invariant-loop wide₀ floats words k a₀ wide a = (a₀ ≤ a) × (a ≤ 66) × (wide ≡ sets wide₀ a₀ (replicate (a - a₀) 0))
 
 abbrev decreases-loop : tie.decreases-loop
-decreases-loop wide₀ floats words k a₀ wide a = 67 - a
+decreases-loop wide₀ floats words k a₀ wide a = 66 - a
 
 abbrev invariant-loop2 : tie.invariant-loop2
 invariant-loop2 wide floats₀ words k a b₀ floats b = (b₀ ≤ b) × (b ≤ 10435) × (floats ≡ sets floats₀ b₀ (replicate (b - b₀) f0))
@@ -32,7 +32,7 @@ add_a : tie.Need-overflow-add-a invariant-loop decreases-loop invariant-loop2 de
 add_a c = search rules
 
 loop-holds : tie.Need-loop-init invariant-loop decreases-loop invariant-loop2 decreases-loop2 invariant-loop3 decreases-loop3
-loop-holds c = (search rules, search rules, fill-first _ (3 + c.args.k) 0)
+loop-holds c = (search rules, search rules, fill-first _ (2 + c.args.k) 0)
 
 mul_wide : tie.Need-overflow-mul-wide invariant-loop decreases-loop invariant-loop2 decreases-loop2 invariant-loop3 decreases-loop3
 mul_wide c = search rules
@@ -48,7 +48,7 @@ loop-less : tie.Need-loop-smaller invariant-loop decreases-loop invariant-loop2 
 loop-less c = search rules
 
 loop-again : tie.Need-loop-preserved invariant-loop decreases-loop invariant-loop2 decreases-loop2 invariant-loop3 decreases-loop3
-loop-again c = let l = c.before.loop in (search rules, search rules, fill-turn _ l.wide (3 + c.before.before.args.k) l.a 0 l.invariant.2 l.invariant.0)
+loop-again c = let l = c.before.loop in (search rules, search rules, fill-turn _ l.wide (2 + c.before.before.args.k) l.a 0 l.invariant.2 l.invariant.0)
 
 mul-b : tie.Need-overflow-mul-b invariant-loop decreases-loop invariant-loop2 decreases-loop2 invariant-loop3 decreases-loop3
 mul-b c = search rules
@@ -107,7 +107,7 @@ returns c =
     let m = c.before.before.before.loop2 in
     let n = c.before.loop3 in
     record {
-      wide = fill_done _ l.wide (3 + k) l.a (64 - k) 0 l.invariant.2 (omega arith);
+      wide = fill_done _ l.wide (2 + k) l.a (64 - k) 0 l.invariant.2 (omega arith);
       floats = fill_done _ m.floats (3 + 163 * k) m.b (163 * (64 - k)) f0 m.invariant.2 (omega arith);
       words = fill_done _ n.words (5 + 15 * k) n.c (15 * (64 - k)) 0 n.invariant.2 (omega arith);
     }

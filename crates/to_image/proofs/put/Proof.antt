@@ -27,9 +27,6 @@ element-write-wide c = search rules
 element-write-wide-2 : tie.Need-element-write-wide-2 invariant-loop decreases-loop
 element-write-wide-2 c = search rules
 
-element-write-wide-3 : tie.Need-element-write-wide-3 invariant-loop decreases-loop
-element-write-wide-3 c = search rules
-
 element-write-floats : tie.Need-element-write-floats invariant-loop decreases-loop
 element-write-floats c = search rules
 
@@ -105,7 +102,6 @@ put_spec =
     lengths-requires
     element-write-wide
     element-write-wide-2
-    element-write-wide-3
     element-write-floats
     element-write-floats-2
     element-write-floats-3

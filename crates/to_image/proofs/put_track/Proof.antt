@@ -139,7 +139,7 @@ returns c =
     let first = c.before.before.before.before.before.before.before.before.before.before.before.before.put-filter in
     let good = s.well-formed.1.1.1.1.0 in
     record {
-      wide = refl {a = set s.args.wide.now (3 + s.args.k) s.args.e.id};
+      wide = refl {a = set s.args.wide.now (2 + s.args.k) s.args.e.id};
       floats = floats-put s.args.e _ good (3 + 163 * s.args.k) _ _ _ _ _ _ _ first.ensures saved.ensures last.ensures.1 list.ensures.1 direction.ensures.1 kept.ensures.0;
       words = words-put s.args.e (5 + 15 * s.args.k) _ _ _ _ _ _ frozen.ensures last.ensures.0 list.ensures.0 direction.ensures.0 kept.ensures.1;
       full = full s.args.e _ good;
