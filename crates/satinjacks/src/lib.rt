@@ -1,4 +1,4 @@
-// What C and Rust link: the tracker's calls over the image of a state, which the caller holds in three lists of numbers.
+// What C and Rust link, behind the symbols of crate `host`: the tracker's calls over the image of a state, which the caller holds in three lists of numbers.
 #![tactic(auto)]
 
 ghost use Rattle.std.specs.Prelude.{◌≡◌};
@@ -19,8 +19,7 @@ use update_in_lists::Reply;
 // ---- a frame
 
 // One frame, in place: a refusal leaves lists and buffers as they were.
-#[unsafe(no_mangle)]
-pub extern "C" fn satinjacks_update_lists(
+pub fn satinjacks_update_lists(
     wide: &mut [u64; 66],
     floats: &mut [f32; 10435],
     words: &mut [u32; 965],
@@ -36,8 +35,7 @@ pub extern "C" fn satinjacks_update_lists(
 // ---- making a tracker
 
 // A tracker with all seven settings, in place: 0, or 2 and the lists as they were.
-#[unsafe(no_mangle)]
-pub extern "C" fn satinjacks_with_settings_lists(
+pub fn satinjacks_with_settings_lists(
     wide: &mut [u64; 66],
     floats: &mut [f32; 10435],
     words: &mut [u32; 965],
@@ -49,8 +47,7 @@ pub extern "C" fn satinjacks_with_settings_lists(
 }
 
 // A tracker with the Rust's defaults, in place: 0, or 2 and the lists as they were.
-#[unsafe(no_mangle)]
-pub extern "C" fn satinjacks_new_lists(
+pub fn satinjacks_new_lists(
     wide: &mut [u64; 66],
     floats: &mut [f32; 10435],
     words: &mut [u32; 965],
@@ -72,8 +69,7 @@ pub struct AssignReply {
 }
 
 // Pairs n rows and n columns by their costs, given row after row.
-#[unsafe(no_mangle)]
-pub extern "C" fn satinjacks_assign(
+pub fn satinjacks_assign(
     n: usize,
     cost: &[f64],
     x: &mut [i64],
@@ -90,8 +86,7 @@ pub extern "C" fn satinjacks_assign(
 }
 
 // Pairs them by whole costs, at the least total (document 02, 2.3).
-#[unsafe(no_mangle)]
-pub extern "C" fn satinjacks_assign_whole(
+pub fn satinjacks_assign_whole(
     n: usize,
     cost: &[i64],
     x: &mut [i64],
@@ -105,8 +100,7 @@ pub extern "C" fn satinjacks_assign_whole(
 // ---- how often the shortcut runs
 
 // Of all patterns of 1 to 4 rows by 1 to 4 columns, those that take the shortcut and those that go to the assignment; 0 and 0 for any other size.
-#[unsafe(no_mangle)]
-pub extern "C" fn satinjacks_shortcuts(rows: u64, columns: u64) -> Tally
+pub fn satinjacks_shortcuts(rows: u64, columns: u64) -> Tally
     ensures { Counted rows columns result.shortcut result.assignment }
 {
     shortcut_counts::shortcuts(rows, columns)
