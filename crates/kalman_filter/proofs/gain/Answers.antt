@@ -1,0 +1,10 @@
+-- `kalman_filter::gain` meets its contract.
+use mathlib.Core.Path.{sym}
+use Rattle.matrix.specs.Matrix.{transpose}
+use Rattle.kalman_filter.specs.Filter.{h_matrix, r_matrix}
+use Rattle.kalman_filter.proofs.Steps.{gain-is}
+use Rattle.kalman_filter.proofs.gain.Goals as goal
+
+pub returns : goal.returns
+unfolding h_matrix r_matrix transpose
+returns c = rw (c.product4-3.ensures, c.inverse_or_identity-inverse.ensures, c.sum.ensures, c.product4-2.ensures, c.product4.ensures) (sym (gain-is c.args.f))
