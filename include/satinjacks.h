@@ -38,17 +38,6 @@ extern "C" {
  */
 #define SATINJACKS_VERSION 100
 
-/*
- * The number of a tracker's layout, its first 8 bytes; raised whenever the bytes
- * of a tracker change. A frame on a tracker with another number there is refused
- * with 1, whatever else stands in it: so one that was stored in another layout
- * isn't misread, and zeros are no tracker. Those stored before there was a
- * number are 46,128 bytes, the ids issued first: with the number put in front of
- * them they are of this layout. README, 'What a host must know', says what else
- * to mend in one from before document 02's 2.5.
- */
-#define SATINJACKS_LAYOUT 1000000001
-
 /* Room that a frame's answer asks for, however few tracks there are. */
 #define SATINJACKS_BOXES 256 /* floats: x, y, width, height of 64 reports */
 #define SATINJACKS_IDS 64    /* ids of 64 reports */
@@ -57,7 +46,7 @@ extern "C" {
 /* Why a call was turned away; 0 where it was not. Numbers will be added: take any but 0 for a refusal. */
 enum {
     SATINJACKS_ACCEPTED = 0,
-    SATINJACKS_UNSOUND_STATE = 1, /* another layout, a state rule broken, or a tag neither 0 nor 1 */
+    SATINJACKS_UNSOUND_STATE = 1, /* a state rule broken, or a tag neither 0 nor 1 */
     SATINJACKS_BAD_SETTING = 2,   /* a setting is outside its range */
     SATINJACKS_RAGGED_FRAME = 3,  /* the input's length is no multiple of 5 */
     SATINJACKS_CROWDED_FRAME = 4, /* more than 64 objects */
@@ -101,7 +90,7 @@ typedef struct {
 } SatinjacksTrackWords;
 
 /*
- * The whole tracker, 46,136 bytes without padding: too much for some stacks,
+ * The whole tracker, 46,128 bytes without padding: too much for some stacks,
  * so better in static storage or on the heap. It is three lists of numbers,
  * one for each type; track k is id[k], floats[k] and words[k]. Read `issued`
  * (ids given so far), `count` (live tracks) and `frames` at any time. Cells of
@@ -109,8 +98,7 @@ typedef struct {
  * frame have zeros there.
  */
 typedef struct {
-    /* wide: 67 */
-    uint64_t layout; /* SATINJACKS_LAYOUT */
+    /* wide: 66 */
     uint64_t issued, count;
     uint64_t id[64]; /* a report's id is one more */
     /* floats: 10,435 */
@@ -129,10 +117,9 @@ typedef struct {
 #else
 #define SATINJACKS_ASSERT(c, why) struct satinjacks_no_assert
 #endif
-SATINJACKS_ASSERT(offsetof(SatinjacksTracker, layout) == 0, "the layout's number stands first");
-SATINJACKS_ASSERT(offsetof(SatinjacksTracker, det_thresh) == 8 * 67, "wide is 67 numbers");
-SATINJACKS_ASSERT(offsetof(SatinjacksTracker, max_age) == 8 * 67 + 4 * 10435, "floats is 10,435 numbers");
-SATINJACKS_ASSERT(sizeof(SatinjacksTracker) == 46136, "words is 965 numbers, and nothing follows");
+SATINJACKS_ASSERT(offsetof(SatinjacksTracker, det_thresh) == 8 * 66, "wide is 66 numbers");
+SATINJACKS_ASSERT(offsetof(SatinjacksTracker, max_age) == 8 * 66 + 4 * 10435, "floats is 10,435 numbers");
+SATINJACKS_ASSERT(sizeof(SatinjacksTracker) == 46128, "words is 965 numbers, and nothing follows");
 #undef SATINJACKS_ASSERT
 
 typedef struct {
@@ -151,7 +138,7 @@ typedef struct {
 } SatinjacksReply;
 
 /*
- * What the library exports: the calls below on a tracker's three lists, 67
+ * What the library exports: the calls below on a tracker's three lists, 66
  * numbers wide, 10,435 floats and 965 words, which need not stand together.
  */
 uint64_t satinjacks_new_lists(uint64_t *wide, float *floats, uint32_t *words, float det_thresh);

@@ -509,7 +509,6 @@ static void answer_load(Words *w)
 {
     SatinjacksSettings s = settings(w);
     memset(&tracker, 0, sizeof tracker);
-    tracker.layout = SATINJACKS_LAYOUT; /* zeros are no state without it */
     tracker.det_thresh = s.det_thresh;
     tracker.iou_threshold = s.iou_threshold;
     tracker.inertia = s.inertia;

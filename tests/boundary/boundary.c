@@ -6,21 +6,18 @@
  *     boundary CALLS SEED
  *
  * Images: those that runs of real frames grew, as they are or with a field
- * damaged, of another layout, with wild floats, with random bytes past the
- * count, or at the limit of frames; and random bytes, most of them behind the
- * layout's number. Inputs and buffers of any length and content. The image is
- * lent whole, or its three lists apart. Every list and buffer touches a page
- * that faults, at its end or at its start, and on the other side bytes that
- * must stay.
+ * damaged, with wild floats, with random bytes past the count, or at the
+ * limit of frames; and random bytes. Inputs and buffers of any length and
+ * content. The image is lent whole, or its three lists apart. Every list and
+ * buffer touches a page that faults, at its end or at its start, and on the
+ * other side bytes that must stay.
  *
  * Compared are number, count, every cell of both buffers and the image: an
  * accepted frame leaves the plain form's (all NaNs are one value), a refusal
  * leaves every byte as it was. Past the count an accepted frame and a new
  * tracker have zeros. A list box that isn't the last box as measured here is
- * refused with 1, and so is an image of another layout, whatever else stands
- * in it. A refusal that never came is a failure; 1 must have come for another
- * layout and without it. First, a known run's numbers must stand where the
- * header's names say.
+ * refused with 1. A refusal that never came is a failure. First, a known
+ * run's numbers must stand where the header's names say.
  */
 #include "satinjacks.h"
 
@@ -167,13 +164,13 @@ static int same_image(const SatinjacksTracker *a, const SatinjacksTracker *b)
 static size_t live(const SatinjacksTracker *i) { return i->count <= 64 ? i->count : 64; }
 
 /* Where word k of the head stands, and word k of a track: those of wide, of floats, of words. */
-enum { HEAD = 6 + 3 + 5, CELL = 2 + 163 + 15 };
+enum { HEAD = 4 + 3 + 5, CELL = 2 + 163 + 15 };
 
-static size_t in_head(size_t k) { return k < 6 ? k : k < 9 ? FLOATS + k - 6 : WORDS + k - 9; }
+static size_t in_head(size_t k) { return k < 4 ? k : k < 7 ? FLOATS + k - 4 : WORDS + k - 7; }
 
 static size_t in_track(size_t t, size_t k)
 {
-    return k < 2 ? 6 + 2 * t + k : k < 165 ? FLOATS + 3 + 163 * t + k - 2 : WORDS + 5 + 15 * t + k - 165;
+    return k < 2 ? 4 + 2 * t + k : k < 165 ? FLOATS + 3 + 163 * t + k - 2 : WORDS + 5 + 15 * t + k - 165;
 }
 
 static int holds_nan(const SatinjacksTracker *i)
@@ -269,8 +266,7 @@ static int in_range(const SatinjacksSettings *s)
 static int begins(const SatinjacksTracker *i, const SatinjacksSettings *s)
 {
     SatinjacksSettings held = {i->det_thresh, i->iou_threshold, i->inertia, i->max_age, i->min_hits, i->delta_t, i->use_byte};
-    return i->layout == SATINJACKS_LAYOUT && i->count == 0 && i->frames == 0 && i->issued == 0 && memcmp(&held, s, sizeof held) == 0
-        && is_clear_past_the_count(i);
+    return i->count == 0 && i->frames == 0 && i->issued == 0 && memcmp(&held, s, sizeof held) == 0 && is_clear_past_the_count(i);
 }
 
 /* Settings that a host means, any bytes, or meant ones with a field damaged. */
@@ -331,7 +327,7 @@ static void names(void)
         CHECK(satinjacks_update(&i, animal, k < 3 ? 5 : 0, boxes, SATINJACKS_BOXES, ids, SATINJACKS_IDS).number == 0);
         CHECK(k == 3 || (w->frozen == 0 && f->saved.x[0] == 0 && f->saved.p[48] == 0 && near_to(f->filter.x[0], 32 + 3 * k)));
     }
-    CHECK(i.layout == SATINJACKS_LAYOUT && i.issued == 1 && i.count == 1 && i.id[0] == 0);
+    CHECK(i.issued == 1 && i.count == 1 && i.id[0] == 0);
     CHECK(i.det_thresh == 0.5f && i.iou_threshold == 0.3f && i.inertia == 0.2f);
     CHECK(i.max_age == 30 && i.min_hits == 3 && i.delta_t == 3 && i.use_byte == 0 && i.frames == 4);
     CHECK(w->frozen == 1 && w->age == 3 && w->streak == 2 && w->since == 1);
@@ -345,15 +341,13 @@ static void names(void)
     CHECK(memcmp(&f->filter, &f->saved, sizeof f->filter) == 0);
 }
 
-/* ---- zeros are no state; behind the layout's number they are one without tracks */
+/* ---- zeros are a state without tracks */
 
 static void zeros(void)
 {
     static SatinjacksTracker i;
     static float input[5], boxes[SATINJACKS_BOXES];
     static uint64_t ids[SATINJACKS_IDS];
-    CHECK(satinjacks_update(&i, input, 0, boxes, SATINJACKS_BOXES, ids, SATINJACKS_IDS).number == SATINJACKS_UNSOUND_STATE);
-    i.layout = SATINJACKS_LAYOUT;
     CHECK(satinjacks_update(&i, input, 0, boxes, SATINJACKS_BOXES, ids, SATINJACKS_IDS).number == 0 && i.frames == 1);
 }
 
@@ -517,28 +511,10 @@ static uint32_t *tag(SatinjacksTrackWords *t)
     return k < 8 ? &t->has_kept[k] : k == 8 ? &t->frozen : k == 9 ? &t->has_last : k == 10 ? &t->has_list : &t->has_direction;
 }
 
-/* Another number in the layout's place: none, the next ones, a bit off, half of it, any; or, as before there was one, the ids issued. */
-static void other_layout(SatinjacksTracker *i)
-{
-    switch (below(7)) {
-    case 0: i->layout = 0; break;
-    case 1: i->layout = SATINJACKS_LAYOUT + 1; break;
-    case 2: i->layout = SATINJACKS_LAYOUT - 1; break;
-    case 3: i->layout ^= (uint64_t)1 << below(64); break;
-    case 4: set_word(i, one_in(2), (uint32_t)next()); break;
-    case 5: i->layout = next(); break;
-    default: memmove(i, (unsigned char *)i + sizeof i->layout, sizeof *i - sizeof i->layout); break;
-    }
-}
-
-/* Another layout, a tag other than 0 and 1, or one word of the head or of a live track, rather a count, a setting or a tag than a float. */
+/* A tag other than 0 and 1, or one word of the head or of a live track, rather a count, a setting or a tag than a float. */
 static void damage(SatinjacksTracker *i)
 {
     size_t tracks = live(i), k;
-    if (one_in(8)) {
-        other_layout(i);
-        return;
-    }
     if (tracks > 0 && one_in(4)) {
         *tag(&i->words[below((uint32_t)tracks)]) = one_in(2) ? 2 : (uint32_t)next() | 2;
         return;
@@ -578,13 +554,11 @@ static void wild_floats(SatinjacksTracker *i)
         mend_lists(i);
 }
 
-/* Random bytes, most of them of this layout, or random tracks whose tags mean something under the head of a run. */
+/* Random bytes, or random tracks whose tags mean something under the head of a run. */
 static void random_image(SatinjacksTracker *i)
 {
     if (one_in(2)) {
         random_bytes(i, sizeof *i);
-        if (!one_in(4))
-            i->layout = SATINJACKS_LAYOUT;
         return;
     }
     random_bytes(i->id, sizeof i->id);
@@ -595,7 +569,7 @@ static void random_image(SatinjacksTracker *i)
 
 /* ---- a frame by both calls */
 
-static unsigned long counts[9], reporting, with_nan, of_other_layout;
+static unsigned long counts[9], reporting, with_nan;
 
 static size_t room(size_t asked, size_t most)
 {
@@ -675,10 +649,8 @@ static void frame(Run *run)
     CHECK(memcmp(boxes + f, boxes0 + 4 * f, 4 * (m - f)) == 0 && memcmp(ids + d, ids0 + 8 * d, 8 * (l - d)) == 0);
     CHECK(memcmp(boxes2 + f, boxes0 + 4 * f, 4 * (m - f)) == 0 && memcmp(ids2 + d, ids0 + 8 * d, 8 * (l - d)) == 0);
 
-    CHECK(r.number == SATINJACKS_UNSOUND_STATE || before.layout == SATINJACKS_LAYOUT);
     CHECK(r.number == SATINJACKS_UNSOUND_STATE || is_listed(&before));
     counts[r.number]++;
-    of_other_layout += before.layout != SATINJACKS_LAYOUT;
     if (r.number != 0) {
         CHECK(memcmp(&after, &before, sizeof before) == 0);
         CHECK(same_image(&by.image, &plain));
@@ -686,7 +658,6 @@ static void frame(Run *run)
     }
     CHECK(same_image(&after, &by.image));
     CHECK(after.frames == before.frames + 1 && is_clear_past_the_count(&after) && is_listed(&after));
-    CHECK(after.layout == SATINJACKS_LAYOUT);
     reporting += r.count > 0;
     with_nan += holds_nan(&after);
     if (kind > 9 && !limit)
@@ -748,8 +719,7 @@ int main(int argc, char **argv)
         frame(r);
     }
     tally("frames", counts, "0134567");
-    printf(" (%lu with reports, %lu left a NaN, %lu of another layout)", reporting, with_nan, of_other_layout);
-    complete &= of_other_layout > 0 && counts[SATINJACKS_UNSOUND_STATE] > of_other_layout;
+    printf(" (%lu with reports, %lu left a NaN)", reporting, with_nan);
     tally("trackers made", made, "02");
     tally("assignments", assigned, "08");
     printf("; by whole costs: 0 x%lu, 8 x%lu, 12 x%lu", planned[0], planned[1], planned[2]);

@@ -65,17 +65,12 @@ pub struct TrackWords {
     pub has_kept: [u32; 8],
 }
 
-/// The number of a state's layout, its first 8 bytes; raised whenever the bytes of a state change. The C header has the
-/// same, `SATINJACKS_LAYOUT`.
-pub const LAYOUT: u64 = 1_000_000_001;
-
 /// The whole state: three lists of numbers, one for each type. Track k is `id[k]` (a report's id is one more),
 /// `floats[k]` and `words[k]`. Cells of tracks past `count` mean nothing; a tracker that is made and an accepted frame
-/// have zeros there. A state whose `layout` isn't [`LAYOUT`] is refused, whatever else stands in it.
+/// have zeros there.
 #[repr(C)]
 #[derive(Clone, Copy, Debug)]
 pub struct TrackerImage {
-    pub layout: u64,
     pub issued: u64,
     pub count: u64,
     pub id: [u64; 64],
@@ -93,16 +88,12 @@ pub struct TrackerImage {
 
 // the sizes are the sums, so there is no padding
 const _: () = assert!(size_of::<TrackFloats>() == 4 * 163 && size_of::<TrackWords>() == 4 * 15);
-const _: () = assert!(size_of::<TrackerImage>() == 8 * 67 + 4 * 10_435 + 4 * 965);
-const _: () = assert!(std::mem::offset_of!(TrackerImage, layout) == 0);
+const _: () = assert!(size_of::<TrackerImage>() == 8 * 66 + 4 * 10_435 + 4 * 965);
 
 /// Why bytes are no stored state of this version.
 #[derive(Clone, Copy, Debug, PartialEq, Eq, Hash)]
 #[non_exhaustive]
 pub enum StoredError {
-    /// They are of another layout, older or newer: `found` stands first in them and isn't [`LAYOUT`]. Before there were
-    /// layouts, the ids issued stood there, at most 64,000,000.
-    OtherLayout { found: u64 },
     /// They aren't [`TrackerImage::SIZE`] many.
     WrongLength { given: usize },
 }
@@ -110,9 +101,6 @@ pub enum StoredError {
 impl fmt::Display for StoredError {
     fn fmt(&self, f: &mut fmt::Formatter<'_>) -> fmt::Result {
         match self {
-            Self::OtherLayout { found } => {
-                write!(f, "other layout: a stored state begins with the number {LAYOUT}, these bytes with {found}")
-            }
             Self::WrongLength { given } => {
                 write!(f, "wrong length: a stored state has {} bytes, these are {given}", TrackerImage::SIZE)
             }
@@ -133,16 +121,9 @@ impl TrackerImage {
         unsafe { std::slice::from_raw_parts(from_ref(self).cast(), size_of::<Self>()) }
     }
 
-    /// The state that [`TrackerImage::bytes`] gave, on the heap. Their layout and their number are tested, the layout first
-    /// where there are bytes for one, since another layout may have another number of bytes. Whether they are a sound state
-    /// shows at the next frame, which refuses another with 1.
+    /// The state that [`TrackerImage::bytes`] gave, on the heap. Their number is tested. Whether they are a sound state shows
+    /// at the next frame, which refuses another with 1.
     pub fn from_bytes(bytes: &[u8]) -> Result<Box<Self>, StoredError> {
-        if let Some(&first) = bytes.first_chunk() {
-            let found = u64::from_ne_bytes(first);
-            if found != LAYOUT {
-                return Err(StoredError::OtherLayout { found });
-            }
-        }
         if bytes.len() != Self::SIZE {
             return Err(StoredError::WrongLength { given: bytes.len() });
         }
@@ -153,16 +134,16 @@ impl TrackerImage {
         Ok(image)
     }
 
-    /// A state on the heap whose bytes the caller writes: zeros, which are no state before it has its `layout`.
+    /// A state on the heap whose bytes the caller writes: zeros, a state without tracks.
     pub fn zeroed() -> Box<Self> {
         // SAFETY: all fields are integers and floats, of which zero bytes are values.
         unsafe { Box::new(std::mem::zeroed()) }
     }
 
-    /// Its three lists: 67 numbers, 10,435 floats, 965 words.
+    /// Its three lists: 66 numbers, 10,435 floats, 965 words.
     pub(crate) fn lists(&mut self) -> (*mut u64, *mut f32, *mut u32) {
         let image: *mut Self = self;
         // SAFETY: places in a whole image; by its own pointer, since each list goes past the field that it begins with.
-        unsafe { (addr_of_mut!((*image).layout), addr_of_mut!((*image).det_thresh), addr_of_mut!((*image).max_age)) }
+        unsafe { (addr_of_mut!((*image).issued), addr_of_mut!((*image).det_thresh), addr_of_mut!((*image).max_age)) }
     }
 }

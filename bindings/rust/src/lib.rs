@@ -21,9 +21,7 @@ mod refusal;
 
 use std::fmt;
 
-pub use image::{
-    BoxImage, DirectionImage, Filter, ListImage, StoredError, TrackFloats, TrackWords, TrackerImage, LAYOUT,
-};
+pub use image::{BoxImage, DirectionImage, Filter, ListImage, StoredError, TrackFloats, TrackWords, TrackerImage};
 pub use refusal::Refusal;
 
 /// This crate's version as one number, 10,000 for each major version, 100 for each minor one, 1 for each patch. The C
@@ -203,9 +201,8 @@ impl Tracker {
         }
     }
 
-    /// A tracker that goes on where the one stood that gave these [`bytes`](Tracker::bytes). Bytes of another layout, and
-    /// another number of bytes, are refused here; a state that breaks a rule is refused by [`update`](Tracker::update) as
-    /// [`Refusal::UnsoundState`].
+    /// A tracker that goes on where the one stood that gave these [`bytes`](Tracker::bytes). Another number of bytes
+    /// is refused here; a state that breaks a rule is refused by [`update`](Tracker::update) as [`Refusal::UnsoundState`].
     ///
     /// ```
     /// use satinjacks::{Detection, Refusal, StoredError, Tracker};
@@ -219,8 +216,7 @@ impl Tracker {
     /// assert_eq!(restored.update(&[animal])?, tracker.update(&[animal])?);
     ///
     /// assert_eq!(Tracker::from_bytes(&stored[..100]).unwrap_err(), StoredError::WrongLength { given: 100 });
-    /// assert_eq!(Tracker::from_bytes(&[0; 100]).unwrap_err(), StoredError::OtherLayout { found: 0 });
-    /// stored[8..].fill(0xA5);
+    /// stored.fill(0xA5);
     /// let mut nonsense = Tracker::from_bytes(&stored)?;
     /// assert_eq!(nonsense.update(&[animal]), Err(Refusal::UnsoundState));
     /// # Ok::<(), Box<dyn std::error::Error>>(())
@@ -229,7 +225,7 @@ impl Tracker {
         TrackerImage::from_bytes(bytes).map(Self::from_image)
     }
 
-    /// A tracker on any state, as one that was stored: whether it is sound, and of this layout, shows at the next frame.
+    /// A tracker on any state, as one that was stored: whether it is sound shows at the next frame.
     pub fn from_image(image: Box<TrackerImage>) -> Self {
         Self { image, reported: Vec::with_capacity(ROOM) }
     }

@@ -20,7 +20,7 @@ use std::fmt;
 #[derive(Clone, Copy, Debug, PartialEq, Eq, Hash)]
 #[non_exhaustive]
 pub enum Refusal {
-    /// 1: the state is of another layout, breaks a state rule, or has a tag that is neither 0 nor 1.
+    /// 1: the state breaks a state rule, or has a tag that is neither 0 nor 1.
     UnsoundState,
     /// 2: a setting is outside its range.
     BadSetting,
@@ -82,7 +82,7 @@ impl Refusal {
 impl fmt::Display for Refusal {
     fn fmt(&self, f: &mut fmt::Formatter<'_>) -> fmt::Result {
         f.write_str(match self {
-            Self::UnsoundState => "unsound state: it breaks a state rule, or is of another layout",
+            Self::UnsoundState => "unsound state: it breaks a state rule",
             Self::BadSetting => "bad setting: outside its range",
             Self::RaggedFrame => "ragged frame: the input's length is no multiple of 5",
             Self::CrowdedFrame => "crowded frame: more than 64 objects",

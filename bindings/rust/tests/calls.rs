@@ -1,7 +1,7 @@
 //! Document 01's cases through the library, that a refusal writes nothing, and storing and restoring.
 use satinjacks::{
     assign, assign_whole, shortcuts, BoxImage, Detection, Refusal, Settings, Shortcuts, StoredError, Track, Tracker,
-    TrackerImage, LAYOUT,
+    TrackerImage,
 };
 
 const DEFAULTS: Settings = Settings::new(0.5);
@@ -111,74 +111,28 @@ fn restored_from_bytes() {
     assert!(image.floats[1].filter.x[2].is_nan());
 }
 
-/// So many bytes, this layout's number first in them, as far as it goes, and then `byte`.
-fn of_this_layout(size: usize, byte: u8) -> Vec<u8> {
-    let mut bytes = vec![byte; size];
-    bytes.iter_mut().zip(LAYOUT.to_ne_bytes()).for_each(|(b, of_number)| *b = of_number);
-    bytes
-}
-
 /// Both ways to restore say this of the bytes.
 fn no_stored_state(bytes: &[u8], error: StoredError) {
     assert_eq!(Tracker::from_bytes(bytes).unwrap_err(), error);
     assert_eq!(TrackerImage::from_bytes(bytes).unwrap_err(), error);
 }
 
-/// Layout and number of bytes are tested at once; what else they say is the next frame's to refuse.
+/// The number of bytes is tested at once; what else they say is the next frame's to refuse.
 #[test]
 fn bytes_that_are_no_state() {
-    assert_eq!(TrackerImage::SIZE, 46_136);
+    assert_eq!(TrackerImage::SIZE, 46_128);
     for given in [0, 1, 7, 8, 9, TrackerImage::SIZE - 1, TrackerImage::SIZE + 1] {
         let error = StoredError::WrongLength { given };
-        no_stored_state(&of_this_layout(given, 0), error);
-        assert_eq!(error.to_string(), format!("wrong length: a stored state has 46136 bytes, these are {given}"));
+        no_stored_state(&vec![0; given], error);
+        assert_eq!(error.to_string(), format!("wrong length: a stored state has 46128 bytes, these are {given}"));
     }
     for byte in [1, 0x7F, 0xFF] {
-        let mut tracker = Tracker::from_bytes(&of_this_layout(TrackerImage::SIZE, byte)).unwrap();
+        let mut tracker = Tracker::from_bytes(&vec![byte; TrackerImage::SIZE]).unwrap();
         refuses(&mut tracker, &[], Refusal::UnsoundState);
     }
-    // of zeros every setting is in its range: behind the layout's number a sound state, without tracks
-    let mut tracker = Tracker::from_bytes(&of_this_layout(TrackerImage::SIZE, 0)).unwrap();
+    // of zeros every setting is in its range: a sound state, without tracks
+    let mut tracker = Tracker::from_bytes(&vec![0; TrackerImage::SIZE]).unwrap();
     assert!(tracker.update(&[]).unwrap().is_empty());
-}
-
-/// A sound state under any other number is refused when it is restored, and by a frame if it comes in by another way.
-#[test]
-fn another_layout() {
-    let mut tracker = Tracker::new(0.5).unwrap();
-    assert_eq!(tracker.image().layout, LAYOUT);
-    tracker.update(&[at(0.0, 0.0, 64.0, 64.0, 0.9)]).unwrap();
-    assert_eq!(tracker.image().layout, LAYOUT);
-    let bits = (0..64).map(|bit| LAYOUT ^ 1 << bit);
-    for found in bits.chain([0, 1, 64_000_000, LAYOUT - 1, LAYOUT + 1, LAYOUT.swap_bytes(), u64::MAX]) {
-        let mut stored = tracker.bytes().to_vec();
-        stored[..8].copy_from_slice(&found.to_ne_bytes());
-        let error = StoredError::OtherLayout { found };
-        // whatever their length, which may be another layout's
-        for size in [8, TrackerImage::SIZE - 8, TrackerImage::SIZE] {
-            no_stored_state(&stored[..size], error);
-        }
-        let words = format!("other layout: a stored state begins with the number 1000000001, these bytes with {found}");
-        assert_eq!(error.to_string(), words);
-
-        let image = Box::new(TrackerImage { layout: found, ..*tracker.image() });
-        refuses(&mut Tracker::from_image(image), &[at(0.0, 0.0, 64.0, 64.0, 0.9)], Refusal::UnsoundState);
-    }
-    refuses(&mut Tracker::from_image(TrackerImage::zeroed()), &[], Refusal::UnsoundState);
-    assert_eq!(tracker.update(&[at(0.0, 0.0, 64.0, 64.0, 0.9)]).unwrap().len(), 1);
-}
-
-/// What was stored before there were layouts lacks the number, and nothing else: with it in front it goes on.
-#[test]
-fn from_before_there_were_layouts() {
-    let mut tracker = Tracker::new(0.5).unwrap();
-    tracker.update(&[at(0.0, 0.0, 64.0, 64.0, 0.9)]).unwrap();
-    let stored = tracker.bytes()[8..].to_vec();
-    no_stored_state(&stored, StoredError::OtherLayout { found: tracker.issued() });
-    let mut restored = Tracker::from_bytes(&[&LAYOUT.to_ne_bytes(), &stored[..]].concat()).unwrap();
-    let animal = [at(2.0, 0.0, 64.0, 64.0, 0.9)];
-    assert_eq!(restored.update(&animal), tracker.update(&animal));
-    assert_eq!(restored.bytes(), tracker.bytes());
 }
 
 #[test]
@@ -201,7 +155,7 @@ fn the_image_has_its_names() {
     }
     tracker.update(&[]).unwrap();
     let i = tracker.image();
-    assert_eq!((i.layout, i.issued, i.count, i.id[0]), (LAYOUT, 1, 1, 0));
+    assert_eq!((i.issued, i.count, i.id[0]), (1, 1, 0));
     assert_eq!((i.det_thresh, i.iou_threshold, i.inertia), (0.5, 0.3, 0.2));
     assert_eq!((i.max_age, i.min_hits, i.delta_t, i.use_byte, i.frames), (30, 3, 3, 0, 4));
     let (f, w) = (i.floats[0], i.words[0]);
@@ -227,7 +181,6 @@ fn unsound_states() {
         spoil(&mut image);
         refuses(&mut Tracker::from_image(image), &[], Refusal::UnsoundState);
     };
-    spoilt(|i| i.layout += 1);
     spoilt(|i| i.use_byte = 2);
     spoilt(|i| i.words[0].has_last = 7);
     spoilt(|i| i.words[0].has_kept[7] = 2);

@@ -1,5 +1,5 @@
-//! The C header and this crate say the same: version, layout, sizes, refusals.
-use satinjacks::{Refusal, TrackerImage, LAYOUT, ROOM, VERSION};
+//! The C header and this crate say the same: version, sizes, refusals.
+use satinjacks::{Refusal, TrackerImage, ROOM, VERSION};
 use std::collections::HashSet;
 use std::error::Error;
 
@@ -28,13 +28,6 @@ fn versions() {
     let parts = [VERSION / 10_000, VERSION / 100 % 100, VERSION % 100].map(|p| p.to_string()).join(".");
     assert_eq!(parts, env!("CARGO_PKG_VERSION"));
     assert!(HEADER.contains(&format!(" * {parts}, as one number")), "the header's remark says another version");
-}
-
-#[test]
-fn layout() {
-    assert_eq!(defined("SATINJACKS_LAYOUT") as u64, LAYOUT);
-    // the ids issued stood first before there were layouts, at most 64 in each of 1,000,000 frames
-    assert!(LAYOUT > 64 * 1_000_000);
 }
 
 #[test]
