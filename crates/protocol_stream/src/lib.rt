@@ -2,9 +2,13 @@
 // ends: the programs `replay` and `check_edges` are this on their own lines.
 #![tactic(auto)]
 
-use libc::{STDIN_FILENO, STDOUT_FILENO};
 use protocol_session::{Reply, Session};
 use protocol_words::faults::Fault;
+use std::io;
+use std::io::{Read, Write};
+
+// How much is read at a time.
+const CHUNK: usize = 65536;
 
 // Room for the longest line, and for the longest answer behind others that wait.
 const LINE: usize = 131072;
@@ -30,22 +34,35 @@ struct Taken {
     length: usize,
 }
 
-fn flush(answers: &[u8], waiting: usize) {
+fn flush<W: Write>(output: &mut W, answers: &[u8], waiting: usize) -> io::Result<()> {
     if waiting <= answers.len() {
-        io::write_all(STDOUT_FILENO, &answers[0..waiting]);
+        output.write_all(&answers[0..waiting])?;
     }
+    Ok(())
 }
 
 // Reads on, after writing what waits: every line is answered before the next is waited for.
-fn refill(chunk: &mut [u8], answers: &[u8], waiting: usize) -> usize {
-    flush(answers, waiting);
-    let got = libc::read(STDIN_FILENO, chunk);
-    io::count(got, chunk)
+fn refill<R: Read, W: Write>(
+    input: &mut R,
+    output: &mut W,
+    chunk: &mut [u8],
+    answers: &[u8],
+    waiting: usize,
+) -> io::Result<usize> {
+    flush(output, answers, waiting)?;
+    input.read(chunk)
 }
 
 // Takes the bytes up to the next line feed. Nothing says that a line ends, so the turns are counted down from a number that
 // no run uses up.
-fn take(chunk: &mut [u8], line: &mut [u8], answers: &[u8], s: Stream) -> Taken {
+fn take<R: Read, W: Write>(
+    input: &mut R,
+    output: &mut W,
+    chunk: &mut [u8],
+    line: &mut [u8],
+    answers: &[u8],
+    s: Stream,
+) -> io::Result<Taken> {
     let mut at = s.at;
     let mut end = s.end;
     let mut waiting = s.waiting;
@@ -57,7 +74,7 @@ fn take(chunk: &mut [u8], line: &mut [u8], answers: &[u8], s: Stream) -> Taken {
     while turns > 0 && open && !is_line {
         turns -= 1;
         if end <= at {
-            end = refill(chunk, answers, waiting);
+            end = refill(input, output, chunk, answers, waiting)?;
             at = 0;
             waiting = 0;
             open = 0 < end;
@@ -71,7 +88,7 @@ fn take(chunk: &mut [u8], line: &mut [u8], answers: &[u8], s: Stream) -> Taken {
             }
         }
     }
-    Taken {
+    Ok(Taken {
         stream: Stream {
             at,
             end,
@@ -82,16 +99,16 @@ fn take(chunk: &mut [u8], line: &mut [u8], answers: &[u8], s: Stream) -> Taken {
         is_line: is_line || 0 < n,
         fits,
         length: n,
-    }
+    })
 }
 
 // Leaves room for the longest answer.
-fn make_room(answers: &[u8], waiting: usize) -> usize {
+fn make_room<W: Write>(output: &mut W, answers: &[u8], waiting: usize) -> io::Result<usize> {
     if ANSWER < waiting {
-        flush(answers, waiting);
-        return 0;
+        flush(output, answers, waiting)?;
+        return Ok(0);
     }
-    waiting
+    Ok(waiting)
 }
 
 fn put_answer(
@@ -119,25 +136,37 @@ struct Step {
 }
 
 // Answers a line that was taken.
-fn respond(line: &[u8], answers: &mut [u8], t: Taken, k: Session) -> Step {
+fn respond<W: Write>(
+    output: &mut W,
+    line: &[u8],
+    answers: &mut [u8],
+    t: Taken,
+    k: Session,
+) -> io::Result<Step> {
     let mut s = t.stream;
     if !t.is_line {
-        return Step {
+        return Ok(Step {
             stream: s,
             session: k,
-        };
+        });
     }
     let n = protocol_words::within(t.length as u64, line.len());
-    let waiting = make_room(answers, s.waiting);
+    let waiting = make_room(output, answers, s.waiting)?;
     let r = put_answer(&line[0..n], answers, waiting, s.number, t.fits, k);
     s.waiting = r.at;
     s.number = std::num::wrapping_add_u64(s.number, 1);
     let session = r.session;
-    Step { stream: s, session }
+    Ok(Step { stream: s, session })
 }
 
 // Answers line after line. Nothing says that the input ends, so the turns are counted down as well.
-fn answer_all(chunk: &mut [u8], line: &mut [u8], answers: &mut [u8]) {
+fn answer_all<R: Read, W: Write>(
+    input: &mut R,
+    output: &mut W,
+    chunk: &mut [u8],
+    line: &mut [u8],
+    answers: &mut [u8],
+) -> io::Result<()> {
     let mut s = Stream {
         at: 0,
         end: 0,
@@ -149,18 +178,18 @@ fn answer_all(chunk: &mut [u8], line: &mut [u8], answers: &mut [u8]) {
     let mut turns = u64::MAX;
     while turns > 0 && s.open {
         turns -= 1;
-        let t = take(chunk, line, answers, s);
-        let step = respond(line, answers, t, k);
+        let t = take(input, output, chunk, line, answers, s)?;
+        let step = respond(output, line, answers, t, k)?;
         s = step.stream;
         k = step.session;
     }
-    flush(answers, s.waiting);
+    flush(output, answers, s.waiting)
 }
 
-// Answers standard input's lines.
-pub fn run() {
-    let mut chunk = io::large_buffer();
+// Answers the input's lines. A read or a write that fails ends it: what was written before stays, and answers that waited are lost.
+pub fn run<R: Read, W: Write>(input: &mut R, output: &mut W) -> io::Result<()> {
+    let mut chunk = [0u8; CHUNK];
     let mut line = [0u8; LINE];
     let mut answers = [0u8; 2 * ANSWER];
-    answer_all(&mut chunk, &mut line, &mut answers);
+    answer_all(input, output, &mut chunk, &mut line, &mut answers)
 }

@@ -326,9 +326,8 @@ pub fn put_hex(out: &mut [u8], at: usize, x: u64, digits: u32) -> usize
 
 // Puts a whole number in decimal.
 pub fn put_whole(out: &mut [u8], at: usize, x: u64) -> usize {
-    let mut text = [0u8; 20];
-    let k = io::decimal(x, &mut text);
-    put_text(out, at, &text[..k])
+    let mut text = itoa::Buffer::new();
+    put_text(out, at, text.format(x).as_bytes())
 }
 
 // An f32's pattern; any NaN's is the same.

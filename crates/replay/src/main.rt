@@ -1,6 +1,8 @@
 // Answers the lines of the comparison with the original: the stored sample, and what oracle/compare gives it.
 #![tactic(auto)]
 
-fn main() {
-    protocol_stream::run();
+use std::io;
+
+fn main(rt: HostRuntime) -> io::Result<()> {
+    protocol_stream::run(&mut rt.stdin(), &mut rt.stdout())
 }
