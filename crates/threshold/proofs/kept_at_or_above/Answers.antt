@@ -1,0 +1,30 @@
+-- `threshold::kept_at_or_above` meets its contract.
+use native.Mathlib.Omega.{arith}
+use mir.Syntax.{w64}
+use mir.ValLaws.{to_z-of_z}
+use lib.Ieee.{le}
+use Rattle.lapjv_walk.specs.Marks.{mark_at}
+use Rattle.matching.specs.Cells.{entry_at}
+use Rattle.matching.proofs.Loops.{row_ends}
+use Rattle.threshold.proofs.Keeping.{kept_more, kept-all}
+use Rattle.threshold.proofs.kept_at_or_above.Goals as goal
+
+pub at_or_above-requires : goal.at_or_above-requires
+at_or_above-requires c =
+    let s = c.before.before.before.before.before in
+    let i = c.loop-i.i in
+    rw (to_z-of_z w64 (mark_at s.args.marks.at i) (record { sfits = c.at_or_above-arg-1.given })) (λ j e. s.requires.3 i j c.loop-i-test.true e, s.requires.1, omega arith, omega (arith, row_ends s.args.nd s.args.nt i c.loop-i-test.true, s.requires.2))
+
+pub loop-i-preserved : goal.loop-i-preserved
+loop-i-preserved c =
+    let s = c.before.before.before.before.before.before in
+    let l = c.loop-i in
+    let z = to_z-of_z w64 (mark_at s.args.marks.at l.i) (record { sfits = c.at_or_above-arg-1.given }) in
+    let v = to_z-of_z w64 c.at_or_above.result (record { sfits = c.at_or_above.type_inv }) in
+    (omega arith, kept_more (λ o. le s.args.thr o) (entry_at s.args.nt s.args.iou.now) s.args.marks.at l.out.at s.args.nd l.i _ l.invariant.1 c.loop-i-test.true s.requires.0 (rw v (rw z at c.at_or_above.ensures)))
+
+pub returns : goal.returns
+returns c =
+    let s = c.before.before.before.before in
+    let l = c.loop-i in
+    kept-all (λ o. le s.args.thr o) (entry_at s.args.nt s.args.iou.now) s.args.marks.at l.out.at s.args.nd l.i l.invariant.1 (omega arith)
