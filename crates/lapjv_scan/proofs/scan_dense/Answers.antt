@@ -148,7 +148,7 @@ returns-then-not-is_free c =
     let s₀ : Scan Float = record { lo = a.at; hi = a.end; d = a.d.now; cols = a.cols.now; pred = a.pred.now; found = free } in
     let s : Scan Float = record { lo = l.lo; hi = l.hi; d = l.d; cols = l.cols; pred = l.pred; found = free } in
     let e = turn_is floats a.n a.cost.now a.y.now a.v.now s _ _ _ c.index_at-i.ensures c.cost_at.ensures (c.scan_row-s.ensures (l.lo + 1)).0 in
-    let z = to_z-of_z w64 c.scan_row-s.result.found (record { sfits = c.struct_told-1.given.1.0.1 }) in
+    let z = to_z-of_z w64 c.scan_row-s.result.found (record { sfits = omega arith }) in
     let f = rw z at c.is_free.ensures in
     let k = turn-reads floats a.n a.cost.now a.y.now a.v.now s _ _ _ c.index_at-i.ensures c.cost_at.ensures (c.scan_row-s.ensures (l.lo + 1)).1 in
     let low : l.lo < a.n = omega (arith, bounds (goal.at.returns-then-not-is_free c).In-loop-lo) in
@@ -167,7 +167,7 @@ loop-lo-preserved c =
     let s₀ : Scan Float = record { lo = a.at; hi = a.end; d = a.d.now; cols = a.cols.now; pred = a.pred.now; found = free } in
     let s : Scan Float = record { lo = l.lo; hi = l.hi; d = l.d; cols = l.cols; pred = l.pred; found = free } in
     let e = turn_is floats a.n a.cost.now a.y.now a.v.now s _ _ _ c.index_at-i.ensures c.cost_at.ensures (c.scan_row-s.ensures (l.lo + 1)).0 in
-    let z = to_z-of_z w64 c.scan_row-s.result.found (record { sfits = c.struct_told-1.given.1.0.1 }) in
+    let z = to_z-of_z w64 c.scan_row-s.result.found (record { sfits = omega arith }) in
     let f = rw z at c.is_free.ensures in
     let k = turn-reads floats a.n a.cost.now a.y.now a.v.now s _ _ _ c.index_at-i.ensures c.cost_at.ensures (c.scan_row-s.ensures (l.lo + 1)).1 in
     let low : l.lo < a.n = omega (arith, bounds (goal.at.loop-lo-preserved c).In-loop-lo) in
