@@ -4,10 +4,6 @@ use mathlib.Core.Bool.{Bool, true}
 use mathlib.Core.List.{List, [], ◌∷◌, map}
 use Prim.Native.Nat.{ℕ}
 use contract.Lifetimes.{Lfts}
-use denote.Triple.Clauses.{AtExit}
-use borrow.Fn.Kinds.{Dens, ended_of}
-use Rattle.satinjacks.proofs.satinjacks_with_settings_lists.Kinds as with_call
-use Rattle.satinjacks.proofs.satinjacks_update_lists.Kinds as frame-call
 use Rattle.lists.specs.Lists.{pick}
 use Rattle.object.specs.Refusal.{number_of}
 use Rattle.object.specs.declared.Refusal.TheVariants.{BadSetting}
@@ -31,6 +27,9 @@ use Rattle.run.proofs.EveryRun.{no_lifetimes, no_lifetimes₄, ref, started, eve
 use Rattle.exported_run.specs.Calls.{lists_of, Shown, shown_of, Calls, made_new, made_with, called, refused_new, refused-with, seen_as, Alike, none, one_more, IsRun, Brought, brought_to, EveryList}
 use Rattle.exported_run.proofs.Shape.{empty-faithful}
 use Rattle.exported_run.proofs.Steps.{Stands, stands-for, Begun, new-begins, with-begins, refusal-keeps, stands_after, answer, framed, number-told}
+use Rattle.exported_run.specs.New as new
+use Rattle.exported_run.specs.WithSettings as with_settings
+use Rattle.exported_run.specs.Update as update
 
 -- ---- calls as a run
 
@@ -123,10 +122,10 @@ module _ (s : Settings) where
   abbrev made : TrackerImage
   made = begun at-hand (fresh_with passed)
 
-  abbrev asked-with : Dens no_lifetimes with_call.ps
+  abbrev asked-with : with_settings.Dens no_lifetimes
   asked-with = (ref at-hand.wide, (ref at-hand.floats, (ref at-hand.words, (passed, tt))))
 
-  abbrev gone_with : AtExit (ended_of 3 with_call.ps with_call.r) no_lifetimes
+  abbrev gone_with : with_settings.Exit no_lifetimes
   gone_with = (ref made.wide, (ref made.floats, (ref made.words, (passed, tt))))
 
   made-first : in_range s ≡ true → Calls s [] made
@@ -139,10 +138,10 @@ module _ (i : TrackerImage) (b : Brought) where
   abbrev done : Out TrackerImage
   done = frame_on i (call_of b.input b.boxes b.ids)
 
-  abbrev asked : Dens no_lifetimes₆ frame-call.ps
+  abbrev asked : update.Dens no_lifetimes₆
   asked = (ref i.wide, (ref i.floats, (ref i.words, (ref b.input, (ref b.boxes, (ref b.ids, tt))))))
 
-  abbrev gone : AtExit (ended_of 6 frame-call.ps frame-call.r) no_lifetimes₆
+  abbrev gone : update.Exit no_lifetimes₆
   gone = (ref done.next.wide, (ref done.next.floats, (ref done.next.words, (ref b.input, (ref (boxes_after done.reply b.boxes), (ref (ids_after done.reply b.ids), tt))))))
 
   abbrev shown : Shown

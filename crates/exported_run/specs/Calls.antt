@@ -2,14 +2,6 @@
 use Rattle.std.specs.Prelude.{◌≡◌, true, List, [], ◌∷◌, map, ℕ, Float}
 use contract.Lifetimes.{Lfts}
 use Rattle.std.specs.Borrow.{Bor}
-use denote.Triple.Clauses.{AtExit}
-use borrow.Fn.Kinds.{Dens, ended_of}
-use Rattle.satinjacks.proofs.satinjacks_new_lists.Kinds as new-call
-use Rattle.satinjacks.proofs.satinjacks_new_lists.Reads as new-lists
-use Rattle.satinjacks.proofs.satinjacks_with_settings_lists.Kinds as with_call
-use Rattle.satinjacks.proofs.satinjacks_with_settings_lists.Reads as with-settings-lists
-use Rattle.satinjacks.proofs.satinjacks_update_lists.Kinds as frame-call
-use Rattle.satinjacks.proofs.satinjacks_update_lists.Reads as update-lists
 use Rattle.update_in_lists.specs.declared.Reply.{Reply}
 use Rattle.new_in_lists.specs.Making.{decode_settings}
 use Rattle.image.specs.declared.TrackerImage.{TrackerImage}
@@ -20,6 +12,9 @@ use Rattle.frame.specs.declared.Outcome.{Outcome}
 use Rattle.frame.specs.State.{in_range}
 use Rattle.frame.specs.Contract.{told_of}
 use Rattle.run.specs.Run.{Seen, Event, frame, Run, book_of, Holds}
+use Rattle.exported_run.specs.New as new
+use Rattle.exported_run.specs.WithSettings as with_settings
+use Rattle.exported_run.specs.Update as update
 
 -- ---- lists of calls
 
@@ -38,7 +33,7 @@ pub record Shown : Type 0 where
   pub ids_left : List ℕ
 
 -- what the contract of `satinjacks_update_lists` speaks of: what went in as a, what came back as r, and the arguments as the call left them, e
-abbrev pub shown_of : (κs : Lfts 6) → Dens κs frame-call.ps → Reply → AtExit (ended_of 6 frame-call.ps frame-call.r) κs → Shown
+abbrev pub shown_of : (κs : Lfts 6) → update.Dens κs → Reply → update.Exit κs → Shown
 shown_of κs a r e = record {
   input = a.1.1.1.0.now;
   boxes = a.1.1.1.1.0.now;
@@ -52,11 +47,11 @@ shown_of κs a r e = record {
 -- Exported calls on the lists of one tracker, newest frame first, by the calls' own contracts: `Learnt` is what a caller learns of a call. They start where either making call answered 0, whatever stood in the lists before. Each later call gets
 -- the lists that the last one left: a frame, accepted or refused, or a making call that is refused.
 pub data Calls (s : Settings) : List Shown → TrackerImage → Type 0 where
-  made_new : (κs : Lfts 3) (a : Dens κs new-call.ps) (n : ℕ) (e : AtExit (ended_of 3 new-call.ps new-call.r) κs) → new-lists.Learnt κs a n e → n ≡ 0 → defaults a.1.1.1.0 ≡ s → Calls s [] (lists_of e)
-  made_with : (κs : Lfts 3) (a : Dens κs with_call.ps) (n : ℕ) (e : AtExit (ended_of 3 with_call.ps with_call.r) κs) → with-settings-lists.Learnt κs a n e → n ≡ 0 → decode_settings a.1.1.1.0 ≡ s → Calls s [] (lists_of e)
-  called : {ys : List Shown} {i : TrackerImage} → Calls s ys i → (κs : Lfts 6) (a : Dens κs frame-call.ps) (r : Reply) (e : AtExit (ended_of 6 frame-call.ps frame-call.r) κs) → update-lists.Learnt κs a r e → lists_of a ≡ i → Calls s (shown_of κs a r e ∷ ys) (lists_of e)
-  refused_new : {ys : List Shown} {i : TrackerImage} → Calls s ys i → (κs : Lfts 3) (a : Dens κs new-call.ps) (n : ℕ) (e : AtExit (ended_of 3 new-call.ps new-call.r) κs) → new-lists.Learnt κs a n e → lists_of a ≡ i → (n ≡ 0 → ⊥) → Calls s ys (lists_of e)
-  refused-with : {ys : List Shown} {i : TrackerImage} → Calls s ys i → (κs : Lfts 3) (a : Dens κs with_call.ps) (n : ℕ) (e : AtExit (ended_of 3 with_call.ps with_call.r) κs) → with-settings-lists.Learnt κs a n e → lists_of a ≡ i → (n ≡ 0 → ⊥) → Calls s ys (lists_of e)
+  made_new : (κs : Lfts 3) (a : new.Dens κs) (n : ℕ) (e : new.Exit κs) → new.Learnt κs a n e → n ≡ 0 → defaults a.1.1.1.0 ≡ s → Calls s [] (lists_of e)
+  made_with : (κs : Lfts 3) (a : with_settings.Dens κs) (n : ℕ) (e : with_settings.Exit κs) → with_settings.Learnt κs a n e → n ≡ 0 → decode_settings a.1.1.1.0 ≡ s → Calls s [] (lists_of e)
+  called : {ys : List Shown} {i : TrackerImage} → Calls s ys i → (κs : Lfts 6) (a : update.Dens κs) (r : Reply) (e : update.Exit κs) → update.Learnt κs a r e → lists_of a ≡ i → Calls s (shown_of κs a r e ∷ ys) (lists_of e)
+  refused_new : {ys : List Shown} {i : TrackerImage} → Calls s ys i → (κs : Lfts 3) (a : new.Dens κs) (n : ℕ) (e : new.Exit κs) → new.Learnt κs a n e → lists_of a ≡ i → (n ≡ 0 → ⊥) → Calls s ys (lists_of e)
+  refused-with : {ys : List Shown} {i : TrackerImage} → Calls s ys i → (κs : Lfts 3) (a : with_settings.Dens κs) (n : ℕ) (e : with_settings.Exit κs) → with_settings.Learnt κs a n e → lists_of a ≡ i → (n ≡ 0 → ⊥) → Calls s ys (lists_of e)
 
 -- ---- the same as a run
 

@@ -10,14 +10,6 @@ use lib.Ieee.{Float}
 use lib.ListN.{length}
 use contract.Lifetimes.{Lfts}
 use denote.Ref.{Bor}
-use denote.Triple.Clauses.{AtExit}
-use borrow.Fn.Kinds.{Dens, ended_of}
-use Rattle.oc_sort_tracker.proofs.new.Kinds as new-call
-use Rattle.oc_sort_tracker.proofs.new.Reads as new
-use Rattle.oc_sort_tracker.proofs.with_settings.Kinds as with_call
-use Rattle.oc_sort_tracker.proofs.with_settings.Reads as with-settings
-use Rattle.oc_sort_tracker.proofs.update.Kinds as frame-call
-use Rattle.oc_sort_tracker.proofs.update.Reads as update
 use borrow.Author.Tests.{eqb-true, eqb-false, ne_eqb, leb-true, leb-false}
 use Rattle.lent_tracker.specs.declared.Told.{Told}
 use Rattle.lists.specs.Lists.{pick, sum_of, All}
@@ -49,6 +41,9 @@ use Rattle.run_book.proofs.Sim.{out_of, alike}
 use Rattle.run_book.proofs.Laws.{at_first}
 use Rattle.run_book.proofs.Lines.{LivedEntry, Spanned}
 use Rattle.run_book.proofs.Accepted.{refused-accepted, kept_laws, enter-grown}
+use Rattle.run.specs.New as new
+use Rattle.run.specs.WithSettings as with_settings
+use Rattle.run.specs.Update as update
 
 -- ---- what the contracts say
 
@@ -81,17 +76,17 @@ begun q s m e h k =
       fresh = ap (λ (x : Made). x.tracker) e ∙ made-tracker q ∙ ap empty_tracker same;
     }
 
-new-begun : (s : Settings) (κs : Lfts 0) (a : Dens κs new-call.ps) (m : Made) (e : AtExit (ended_of 0 new-call.ps new-call.r) κs) → new.Learnt κs a m e → m.outcome ≡ Accepted → m.tracker.settings ≡ s → Begun s m.tracker
+new-begun : (s : Settings) (κs : Lfts 0) (a : new.Dens κs) (m : Made) (e : new.Exit κs) → new.Learnt κs a m e → m.outcome ≡ Accepted → m.tracker.settings ≡ s → Begun s m.tracker
 new-begun s κs a m e h o k = begun (defaults a.0) s m h.made o k
 
-with-begun : (s : Settings) (κs : Lfts 0) (a : Dens κs with_call.ps) (m : Made) (e : AtExit (ended_of 0 with_call.ps with_call.r) κs) → with-settings.Learnt κs a m e → m.outcome ≡ Accepted → m.tracker.settings ≡ s → Begun s m.tracker
+with-begun : (s : Settings) (κs : Lfts 0) (a : with_settings.Dens κs) (m : Made) (e : with_settings.Exit κs) → with_settings.Learnt κs a m e → m.outcome ≡ Accepted → m.tracker.settings ≡ s → Begun s m.tracker
 with-begun s κs a m e h o k = begun a.0 s m h.made o k
 
 -- what a caller learns of a frame call is the record `Framed`
 abbrev FramedOf : Tracker → Seen → Type 0
 FramedOf t x = Framed t x.input x.boxes x.ids x.answer x.boxes_left x.ids_left
 
-framed : (t : Tracker) (κs : Lfts 3) (a : Dens κs frame-call.ps) (r : Answer) (e : AtExit (ended_of 3 frame-call.ps frame-call.r) κs) → update.Learnt κs a r e → a.0 ≡ t → FramedOf t (seen_of κs a r e)
+framed : (t : Tracker) (κs : Lfts 3) (a : update.Dens κs) (r : Answer) (e : update.Exit κs) → update.Learnt κs a r e → a.0 ≡ t → FramedOf t (seen_of κs a r e)
 framed t κs a r e h same = subst (λ (u : Tracker). FramedOf u (seen_of κs a r e)) same h
 
 framed-in : (t : Tracker) (κs : Lfts 4) (a : lent-call.Dens κs) (r : Told) (e : lent-call.Exit κs) → lent-call.Learnt κs a r e → a.0.now ≡ t → FramedOf t (seen_in κs a r e)
@@ -359,10 +354,10 @@ module _ (t : Tracker) (b : Brought) where
   answer-to = framed-by t b.input b.boxes b.ids answer (boxes_after reply b.boxes) (ids_after reply b.ids) refl refl refl refl refl
 
   -- the call, and the buffers as it leaves them
-  abbrev asked : Dens no_lifetimes frame-call.ps
+  abbrev asked : update.Dens no_lifetimes
   asked = (t, (ref b.input, (ref b.boxes, (ref b.ids, tt))))
 
-  abbrev gone : AtExit (ended_of 3 frame-call.ps frame-call.r) no_lifetimes
+  abbrev gone : update.Exit no_lifetimes
   gone = (t, (ref b.input, (ref (boxes_after reply b.boxes), (ref (ids_after reply b.ids), tt))))
 
   -- the same in place

@@ -1,5 +1,5 @@
--- What a caller learns of a frame call in place: its own `ensures`, read off as the prover reads that of a function whose borrows it covers. Definitions only.
-use Rattle.std.specs.Prelude.{refl}
+-- What a caller learns of `lent_tracker::update_in_place`: its own `ensures`, read off as the prover reads it. Definitions only.
+use Rattle.std.specs.Prelude.{◌≡◌, refl}
 use base.Logic.{emp}
 use contract.Lifetimes.{Lfts}
 use denote.Triple.Clauses.{AtExit}
@@ -18,7 +18,7 @@ Exit κs = AtExit call.ended κs
 
 module _ (κs : Lfts 4) (a : Dens κs) (r : Told) (e : Exit κs) where
   abbrev ensures : (w : World) → Pr w
-  ensures w = (call.clauses w.𝓛 w.𝓜.mem w.𝓡.run κs a).ensures tt r e
+  ensures w = (call.clauses w.𝓛 w.𝓜.mem w.𝓡.returns κs a).ensures tt r e
 
   -- it tells plain facts, the same in every model
   abbrev reading : Read (λ w. emp w.𝓤) no_know ensures

@@ -1,2 +1,5 @@
 pub mod Lent
+pub mod New
 pub mod Run
+pub mod Update
+pub mod WithSettings

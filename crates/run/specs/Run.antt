@@ -2,14 +2,6 @@
 use Rattle.std.specs.Prelude.{◌≡◌, Bool, true, false, ℕ, ◌/◌, ◌≤◌, ◌<◌, T, Float, length}
 use mathlib.Core.List.{List, [], ◌∷◌, map, Memᴰ}
 use contract.Lifetimes.{Lfts}
-use denote.Triple.Clauses.{AtExit}
-use borrow.Fn.Kinds.{Dens, ended_of}
-use Rattle.oc_sort_tracker.proofs.new.Kinds as new-call
-use Rattle.oc_sort_tracker.proofs.new.Reads as new
-use Rattle.oc_sort_tracker.proofs.with_settings.Kinds as with_call
-use Rattle.oc_sort_tracker.proofs.with_settings.Reads as with-settings
-use Rattle.oc_sort_tracker.proofs.update.Kinds as frame-call
-use Rattle.oc_sort_tracker.proofs.update.Reads as update
 use Rattle.lent_tracker.specs.declared.Told.{Told}
 use Rattle.lists.specs.Lists.{up_from}
 use Rattle.object.specs.declared.Refusal.{Refusal}
@@ -30,6 +22,9 @@ use Rattle.run_book.specs.Book.{Stamped, Entry, Book, none_yet, live, track_of, 
 use Rattle.run_book.specs.Claim.{input_of, times_written, boxes_of, boxes_in_frame, Overlapped, Spans, LineFrames, Because, Lived, Grown}
 use Rattle.run_book.specs.Laws.{score_at}
 use Rattle.run.specs.Lent as lent-call
+use Rattle.run.specs.New as new
+use Rattle.run.specs.WithSettings as with_settings
+use Rattle.run.specs.Update as update
 
 -- ---- runs
 
@@ -44,7 +39,7 @@ pub record Seen : Type 0 where
   pub ids_left : List ℕ
 
 -- what the contract of `update` says of one call: what went in as a, what came back as r, and the arguments as the call left them, e
-abbrev pub seen_of : (κs : Lfts 3) → Dens κs frame-call.ps → Answer → AtExit (ended_of 3 frame-call.ps frame-call.r) κs → Seen
+abbrev pub seen_of : (κs : Lfts 3) → update.Dens κs → Answer → update.Exit κs → Seen
 seen_of κs a r e = record {
   in_place = false;
   input = a.1.0.now;
@@ -74,9 +69,9 @@ pub data Event : Type 0 where
 -- A run, newest call first, by the functions' own contracts: `Learnt` is what a caller learns of a call. It starts from what either making call returned with
 -- its acceptance; each call, by value or in place, gets the tracker that the last one returned or left.
 pub data Run (s : Settings) : List Event → Tracker → Type 0 where
-  made_new : (κs : Lfts 0) (a : Dens κs new-call.ps) (m : Made) (e : AtExit (ended_of 0 new-call.ps new-call.r) κs) → new.Learnt κs a m e → m.outcome ≡ Accepted → m.tracker.settings ≡ s → Run s [] m.tracker
-  made_with : (κs : Lfts 0) (a : Dens κs with_call.ps) (m : Made) (e : AtExit (ended_of 0 with_call.ps with_call.r) κs) → with-settings.Learnt κs a m e → m.outcome ≡ Accepted → m.tracker.settings ≡ s → Run s [] m.tracker
-  called : {xs : List Event} {t : Tracker} → Run s xs t → (κs : Lfts 3) (a : Dens κs frame-call.ps) (r : Answer) (e : AtExit (ended_of 3 frame-call.ps frame-call.r) κs) → update.Learnt κs a r e → a.0 ≡ t → Run s (frame (seen_of κs a r e) ∷ xs) r.tracker
+  made_new : (κs : Lfts 0) (a : new.Dens κs) (m : Made) (e : new.Exit κs) → new.Learnt κs a m e → m.outcome ≡ Accepted → m.tracker.settings ≡ s → Run s [] m.tracker
+  made_with : (κs : Lfts 0) (a : with_settings.Dens κs) (m : Made) (e : with_settings.Exit κs) → with_settings.Learnt κs a m e → m.outcome ≡ Accepted → m.tracker.settings ≡ s → Run s [] m.tracker
+  called : {xs : List Event} {t : Tracker} → Run s xs t → (κs : Lfts 3) (a : update.Dens κs) (r : Answer) (e : update.Exit κs) → update.Learnt κs a r e → a.0 ≡ t → Run s (frame (seen_of κs a r e) ∷ xs) r.tracker
   lent : {xs : List Event} {t : Tracker} → Run s xs t → (κs : Lfts 4) (a : lent-call.Dens κs) (r : Told) (e : lent-call.Exit κs) → lent-call.Learnt κs a r e → a.0.now ≡ t → Run s (frame (seen_in κs a r e) ∷ xs) e.0.now
 
 -- ---- the book of the run, from the settings, the inputs and the buffers' lengths alone

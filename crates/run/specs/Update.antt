@@ -1,0 +1,28 @@
+-- What a caller learns of `oc_sort_tracker::update`: its own `ensures`, read off as the prover reads it. Definitions only.
+use Rattle.std.specs.Prelude.{◌≡◌, refl}
+use base.Logic.{emp}
+use contract.Lifetimes.{Lfts}
+use denote.Triple.Clauses.{AtExit}
+use borrow.Fn.Claims.{AllOf}
+use borrow.Fn.World.{World, Pr, ArgsD}
+use borrow.Fn.Read.{Read, r_last, no_know, all_models}
+use Rattle.oc_sort_tracker.specs.contracts.update as call
+use Rattle.frame.specs.declared.Answer.{Answer}
+
+-- what goes in, and the arguments as the call leaves them
+abbrev pub Dens : Lfts 3 → Type 0
+Dens κs = ArgsD call.signature κs
+
+abbrev pub Exit : Lfts 3 → Type 0
+Exit κs = AtExit call.ended κs
+
+module _ (κs : Lfts 3) (a : Dens κs) (r : Answer) (e : Exit κs) where
+  abbrev ensures : (w : World) → Pr w
+  ensures w = (call.clauses w.𝓛 w.𝓜.mem w.𝓡.returns κs a).ensures tt r e
+
+  -- it tells plain facts, the same in every model
+  abbrev reading : Read (λ w. emp w.𝓤) no_know ensures
+  reading = all_models ensures (λ w. r_last _) (λ w. refl) (λ w. refl) (λ w. refl)
+
+  abbrev pub Learnt : Type 0
+  Learnt = AllOf reading.tells
