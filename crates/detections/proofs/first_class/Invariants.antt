@@ -1,0 +1,18 @@
+-- `detections::first_class` meets its contract.
+use mathlib.Core.Path.{◌≡◌, ap, ◌∙◌}
+use Prim.Native.Nat.{◌-◌, ◌/◌, ◌≤◌}
+use native.Mathlib.Omega.{arith}
+use borrow.Author.Rules.{rules}
+use lib.ListN.{length}
+use Rattle.lists.specs.Lists.{keep, tab}
+use Rattle.object.specs.declared.Detection.{Detection}
+use Rattle.frame.specs.Objects.{Obj, object_at, objects_of, first_score}
+use Rattle.detections.specs.Dets.{dets_of}
+use Rattle.detections.proofs.Pushing.{room, turn}
+use Rattle.detections.proofs.first_class.Given as goal
+
+abbrev pub invariant-loop-p : goal.invariant-loop-p
+invariant-loop-p l = (l.p ≤ l.n) × (l.out ≡ dets_of (keep (λ (o : Obj). first_score l.s o.det.score) (tab (object_at l.input) l.p)))
+
+abbrev pub decreases-loop-p : goal.decreases-loop-p
+decreases-loop-p l = l.n - l.p

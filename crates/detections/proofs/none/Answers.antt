@@ -1,0 +1,8 @@
+-- `detections::none` meets its contract.
+use borrow.Author.Rules.{rules}
+use Rattle.detections.specs.Dets.{dets_of}
+use Rattle.detections.proofs.none.Goals as goal
+
+pub returns : goal.returns
+unfolding dets_of
+returns c = rw c.nan-cells.ensures

@@ -1,0 +1,9 @@
+-- `detections::push_if` meets its contract.
+use borrow.Author.Rules.{rules}
+use Rattle.detections.proofs.push_if.Goals as goal
+
+pub returns-then-passes : goal.returns-then-passes
+returns-then-passes c = rw c.if-passes.true c.push.ensures
+
+pub returns : goal.returns
+returns c = rw c.if-passes.false
