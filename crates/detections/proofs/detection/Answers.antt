@@ -1,5 +1,4 @@
 -- `detections::detection` meets its contract.
-use borrow.Author.Rules.{rules}
 use Rattle.frame.specs.Objects.{detection_at}
 use Rattle.detections.proofs.detection.Goals as goal
 

@@ -1,13 +1,10 @@
 -- `detections::first_class` meets its contract.
 use mathlib.Core.Path.{◌≡◌, ap, ◌∙◌}
-use Prim.Native.Nat.{◌-◌, ◌/◌, ◌≤◌}
+use Prim.Native.Nat.{◌/◌}
 use native.Mathlib.Omega.{arith}
-use borrow.Author.Rules.{rules}
 use lib.ListN.{length}
-use Rattle.lists.specs.Lists.{keep, tab}
 use Rattle.object.specs.declared.Detection.{Detection}
-use Rattle.frame.specs.Objects.{Obj, object_at, objects_of, first_score}
-use Rattle.detections.specs.Dets.{dets_of}
+use Rattle.frame.specs.Objects.{Obj, objects_of, first_score}
 use Rattle.detections.proofs.Pushing.{room, turn}
 use Rattle.detections.proofs.first_class.Goals as goal
 

@@ -1,14 +1,9 @@
 -- `detections::first_class` meets its contract.
-use mathlib.Core.Path.{◌≡◌, ap, ◌∙◌}
-use Prim.Native.Nat.{◌-◌, ◌/◌, ◌≤◌}
-use native.Mathlib.Omega.{arith}
-use borrow.Author.Rules.{rules}
-use lib.ListN.{length}
+use mathlib.Core.Path.{◌≡◌}
+use Prim.Native.Nat.{◌-◌, ◌≤◌}
 use Rattle.lists.specs.Lists.{keep, tab}
-use Rattle.object.specs.declared.Detection.{Detection}
-use Rattle.frame.specs.Objects.{Obj, object_at, objects_of, first_score}
+use Rattle.frame.specs.Objects.{Obj, object_at, first_score}
 use Rattle.detections.specs.Dets.{dets_of}
-use Rattle.detections.proofs.Pushing.{room, turn}
 use Rattle.detections.proofs.first_class.Given as goal
 
 abbrev pub invariant-loop-p : goal.invariant-loop-p

@@ -1,5 +1,4 @@
 -- `detections::is_spare` meets its contract.
-use borrow.Author.Rules.{rules}
 use mathlib.Core.Path.{◌≡◌, sym, ◌∙◌}
 use mathlib.Core.Bool.{true, false}
 use Rattle.frame.specs.Objects.{first_score, spare_score}

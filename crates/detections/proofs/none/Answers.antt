@@ -1,5 +1,4 @@
 -- `detections::none` meets its contract.
-use borrow.Author.Rules.{rules}
 use Rattle.detections.specs.Dets.{dets_of}
 use Rattle.detections.proofs.none.Goals as goal
 

@@ -1,5 +1,4 @@
 -- `detections::push` meets its contract.
-use borrow.Author.Rules.{rules}
 use native.Mathlib.Numerals.{unary_clauses}
 use Rattle.detections.specs.Dets.{pushed}
 use Rattle.detections.proofs.push.Goals as goal

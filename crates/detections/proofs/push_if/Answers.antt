@@ -1,5 +1,4 @@
 -- `detections::push_if` meets its contract.
-use borrow.Author.Rules.{rules}
 use Rattle.detections.proofs.push_if.Goals as goal
 
 pub returns-then-passes : goal.returns-then-passes

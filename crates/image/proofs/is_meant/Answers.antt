@@ -1,12 +1,9 @@
 -- `image::is_meant` meets its contract.
 use borrow.Author.Rules.{rules}
-use mathlib.Core.Path.{◌≡◌, sym, ◌∙◌}
-use mathlib.Core.Bool.{◌&&◌}
-use Prim.Native.Nat.{◌-◌, ◌≤◌}
+use mathlib.Core.Path.{sym, ◌∙◌}
 use native.Mathlib.Omega.{arith}
 use lib.ListN.{get_or}
-use Rattle.lists.specs.Lists.{every, tab}
-use Rattle.image.specs.Image.{tagged, meant_track, image_of, cell_at}
+use Rattle.image.specs.Image.{tagged, meant_track, cell_at}
 use Rattle.image.proofs.Tested.{and-true, every-turn, meant-done}
 use Rattle.image.proofs.is_meant.Goals as goal
 

@@ -1,13 +1,10 @@
 -- `image::is_meant` meets its contract.
-use borrow.Author.Rules.{rules}
-use mathlib.Core.Path.{◌≡◌, sym, ◌∙◌}
+use mathlib.Core.Path.{◌≡◌}
 use mathlib.Core.Bool.{◌&&◌}
 use Prim.Native.Nat.{◌-◌, ◌≤◌}
-use native.Mathlib.Omega.{arith}
 use lib.ListN.{get_or}
 use Rattle.lists.specs.Lists.{every, tab}
 use Rattle.image.specs.Image.{tagged, meant_track, image_of, cell_at}
-use Rattle.image.proofs.Tested.{and-true, every-turn, meant-done}
 use Rattle.image.proofs.is_meant.Given as goal
 
 abbrev pub invariant-loop-k : goal.invariant-loop-k

@@ -1,13 +1,10 @@
 -- `image::is_meant_at` meets its contract.
-use borrow.Author.Rules.{rules}
-use mathlib.Core.Path.{◌≡◌, sym, ◌∙◌}
+use mathlib.Core.Path.{◌≡◌}
 use mathlib.Core.Bool.{◌&&◌}
-use Prim.Native.Nat.{◌+◌, ◌-◌, ◌*◌, ◌≤◌}
-use native.Mathlib.Omega.{arith}
+use Prim.Native.Nat.{◌+◌, ◌-◌, ◌≤◌}
 use lib.ListN.{get_or}
 use Rattle.lists.specs.Lists.{every, tab}
 use Rattle.image.specs.Image.{tagged}
-use Rattle.image.proofs.Tested.{and-true, tags-turn, tags-done}
 use Rattle.image.proofs.is_meant_at.Given as goal
 
 abbrev pub invariant-loop-j : goal.invariant-loop-j

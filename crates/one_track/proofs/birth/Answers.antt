@@ -1,5 +1,4 @@
 -- `one_track::birth` meets its contract.
-use borrow.Author.Rules.{rules}
 use Rattle.one_track.proofs.birth.Goals as goal
 
 pub returns : goal.returns

@@ -1,5 +1,4 @@
 -- `one_track::blank` meets its contract.
-use borrow.Author.Rules.{rules}
 use Rattle.frame.specs.State.{blank}
 use Rattle.one_track.proofs.blank.Goals as goal
 

@@ -1,5 +1,4 @@
 -- `one_track::is_unbroken` meets its contract.
-use borrow.Author.Rules.{rules}
 use Rattle.one_track.proofs.is_unbroken.Goals as goal
 
 pub returns : goal.returns

@@ -1,5 +1,4 @@
 -- `one_track::predict_one` meets its contract.
-use borrow.Author.Rules.{rules}
 use Rattle.one_track.proofs.predict_one.Goals as goal
 
 pub returns : goal.returns
