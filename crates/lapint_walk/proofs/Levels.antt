@@ -12,7 +12,6 @@ use lib.ListN.{get_or}
 use native.Mathlib.Decide.{dec_lt, ℕ_discrete}
 use native.Mathlib.Nat.{le_refl}
 use native.Mathlib.Omega.{arith}
-use Rattle.lists.specs.Lists.{pick}
 use Rattle.lists.proofs.Tab.{get_or-tab}
 use Rattle.lapjv_walk.specs.Holds.{Apart, Marked, Room, Seat}
 use Rattle.lapjv_walk.specs.Loops.{runs}
@@ -26,7 +25,7 @@ use Rattle.lapjv_walk.proofs.Pigeon.{at_place}
 use Rattle.lapjv_walk.proofs.Route.{Ended, FreeAt, found-path, Head, last-free, lo-below, scan-on, search-head}
 use Rattle.lapjv_walk.proofs.Search.{Earlier, Link, PathOk, turn-ok}
 use Rattle.lapint_walk.specs.Wholes.{wholes}
-use Rattle.lapint_walk.proofs.Numbers.{up, Le, Lt, Equal, minus, lt_yes, lt_not, le_yes, le_not}
+use Rattle.lapint_walk.proofs.Numbers.{Le, Lt, Equal, minus, lt_yes, lt_not, le_yes, le_not}
 use Rattle.lapint_walk.proofs.Good.{Good, same, val}
 use Rattle.lapint_walk.proofs.Near.{Behind, Edge, ex-ind, Fair, Relaxed, Row, row_done, Short, Within}
 
