@@ -1,0 +1,43 @@
+-- `grants::left` meets its contract.
+use mathlib.Core.Path.{◌≡◌, ap, ◌∙◌}
+use mathlib.Core.List.{List, []}
+use Prim.Native.Nat.{◌-◌, ◌≤◌}
+use native.Mathlib.Omega.{arith}
+use lib.IntN.{pos}
+use lib.ListN.{length, get_or}
+use mir.Syntax.{w64}
+use mir.ValLaws.{to_z-of_z}
+use Rattle.frame.specs.Objects.{Obj}
+use Rattle.detections.specs.declared.Dets.{Dets}
+use Rattle.detections.specs.Dets.{dets_of}
+use Rattle.detections.proofs.Pushing.{dets-count}
+use Rattle.grants.proofs.Known.{cells-long}
+use Rattle.grants.proofs.Leaving.{few, left_to, turn, done}
+use borrow.Author.Rules.{rules}
+use Rattle.grants.proofs.left.Goals as goal
+
+pub loop-i-init : goal.loop-i-init
+loop-i-init c = (omega arith, rw c.none-out.ensures (omega (arith, dets-count [])), λ os n e. c.none-out.ensures)
+
+pub detection_at-requires : goal.detection_at-requires
+detection_at-requires c = let s = c in omega (arith, cells-long s.args.dets _ s.well_formed.1.0, s.requires)
+
+pub push_if-out-requires : goal.push_if-out-requires
+push_if-out-requires c = omega (arith, c.loop-i.invariant.1)
+
+pub loop-i-preserved : goal.loop-i-preserved
+loop-i-preserved c =
+    let s = c in
+    let l = c.loop-i in
+    let z = to_z-of_z w64 (get_or s.args.marks l.i (pos 0)) (record { sfits = c.is_free-arg-1.given }) in (
+      omega arith,
+      few c.is_free.result l.out c.push_if-out.result c.detection_at.result l.i c.push_if-out.ensures l.invariant.1,
+      λ os n e. turn s.args.marks os l.i s.args.dets.cells l.out c.push_if-out.result c.is_free.result c.detection_at.result e (l.invariant.2 os n e) (rw z at c.is_free.ensures) c.detection_at.ensures c.push_if-out.ensures (omega (arith, n)) (omega arith) (omega arith),
+    )
+
+pub returns : goal.returns
+returns c =
+    let s = c in
+    λ os e.
+    let n : s.args.dets.n ≡ length os = ap (λ (x : Dets). x.n) e ∙ dets-count os in
+    done s.args.marks os c.loop-i.out c.loop-i.i (c.loop-i.invariant.2 os n (ap (λ (x : Dets). x.cells) e)) (omega (arith, n)) (omega (arith, n))
