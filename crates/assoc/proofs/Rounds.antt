@@ -4,7 +4,6 @@ use mathlib.Core.Bool.{Bool, true, false, not}
 use mathlib.Core.List.{List, ◌∷◌, ◌++◌}
 use Prim.Native.Nat.{ℕ, zero, suc, ◌+◌, ◌-◌, ◌≤◌}
 use native.Mathlib.Omega.{arith}
-use borrow.Author.Tests.{not-true, not-false}
 use lib.IntN.{ℤ, pos}
 use lib.Ieee.{Float, binary32, add, lt, le}
 use lib.ListN.{take, replicate, replicate-append-replicate, get_or-append}
@@ -120,14 +119,14 @@ module _ (thr : Float) (nd nt : ℕ) (det : ℕ → Detection) (box : ℕ → Co
   }
 
   -- no overlap is above the threshold
-  pub not-started : (cells rest : List Float) (at : List ℤ) (t : Bool) → nd ≤ 64 → cells ≡ overlap_cells nd nt (overlaps det box) ++ rest → t ≡ some_above nd nt thr (entry_at nt cells) → not t ≡ true → at ≡ replicate 64 free
+  pub not-started : (cells rest : List Float) (at : List ℤ) (t : Bool) → nd ≤ 64 → cells ≡ overlap_cells nd nt (overlaps det box) ++ rest → t ≡ some_above nd nt thr (entry_at nt cells) → t ≡ false → at ≡ replicate 64 free
       → Round nd nt thr (overlaps det box) (reassociate thr nd nt det box) at
   unfolding reassociate later_round
   not-started cells rest at t h c d f k =
-      let g : some_above nd nt thr (overlaps det box) ≡ false = sym (some_above-same nd nt (entry_at nt cells) (overlaps det box) (read_back nd nt (overlaps det box) cells rest c) thr) ∙ (sym d ∙ not-true t f) in
+      let g : some_above nd nt thr (overlaps det box) ≡ false = sym (some_above-same nd nt (entry_at nt cells) (overlaps det box) (read_back nd nt (overlaps det box) cells rest c) thr) ∙ (sym d ∙ f) in
       later (tab (λ _. free) nd) at (sym (ap (λ (b : Bool). pick b (rematched nd nt thr (overlaps det box)) (tab (λ _. free) nd)) g)) (k ∙ none-marked nd h)
 
-  pub started : (cells rest : List Float) (marks at : List ℤ) (t : Bool) → cells ≡ overlap_cells nd nt (overlaps det box) ++ rest → t ≡ some_above nd nt thr (entry_at nt cells) → not t ≡ false
+  pub started : (cells rest : List Float) (marks at : List ℤ) (t : Bool) → cells ≡ overlap_cells nd nt (overlaps det box) ++ rest → t ≡ some_above nd nt thr (entry_at nt cells) → t ≡ true
       → marks ≡ assigned nd nt (entry_at nt cells) ++ replicate (64 - nd) free
       → at ≡ kept_where nd (λ o. le thr o) (entry_at nt cells) (take nd marks) ++ replicate (64 - nd) free
       → Round nd nt thr (overlaps det box) (reassociate thr nd nt det box) at
@@ -135,7 +134,7 @@ module _ (thr : Float) (nd nt : ℕ) (det : ℕ → Detection) (box : ℕ → Co
   started cells rest marks at b c d f m k =
       let iou : Matrix = overlaps det box in
       let s : Same nd nt (entry_at nt cells) iou = read_back nd nt iou cells rest c in
-      let g : some_above nd nt thr iou ≡ true = sym (some_above-same nd nt (entry_at nt cells) iou s thr) ∙ (sym d ∙ not-false b f) in
+      let g : some_above nd nt thr iou ≡ true = sym (some_above-same nd nt (entry_at nt cells) iou s thr) ∙ (sym d ∙ f) in
       let t : take nd marks ≡ assigned nd nt iou = take-padded nd nt (assigned nd nt (entry_at nt cells)) marks (assigned-paired nd nt (entry_at nt cells)) m ∙ assigned-same nd nt (entry_at nt cells) iou s in
       let e : kept_where nd (λ o. le thr o) (entry_at nt cells) (take nd marks) ≡ kept_where nd (λ o. le thr o) iou (assigned nd nt iou) = ap (kept_where nd (λ o. le thr o) (entry_at nt cells)) t ∙ kept_same nd nt (entry_at nt cells) iou s (λ o. le thr o) (assigned nd nt iou) (assigned-paired nd nt iou) in
       later (kept_where nd (λ o. le thr o) (entry_at nt cells) (take nd marks)) at (e ∙ sym (ap (λ (b : Bool). pick b (rematched nd nt thr iou) (tab (λ _. free) nd)) g)) k
