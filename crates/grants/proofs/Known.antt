@@ -1,19 +1,16 @@
 -- What owning a value tells: how long its arrays are. Assumes nothing.
-use Prim.Native.Nat.{ℕ}
 use mathlib.Core.Path.{◌≡◌}
 use mathlib.Core.List.{List}
-use lib.Ieee.{Float}
 use lib.ListN.{length}
 use mir.Val.{Val}
 use denote.Laws.{Is}
-use borrow.Author.Rules.{length_unmapped}
 use Rattle.detections.specs.declared.Dets.{Dets}
 use Rattle.detections.specs.contracts.Dets as De
 use Rattle.grants.specs.declared.Places.{Places}
 use Rattle.grants.specs.contracts.Places as Pl
 
 pub at_long : (p : Places) (vs : List Val) → Is Pl.the_row p vs → length p.at ≡ 64
-at_long p vs h = length_unmapped ℕ p.at 64 h.1.1.1.0.1.0.1
+at_long p vs h = h.1.1.1.0.1.0.1
 
 pub cells-long : (d : Dets) (vs : List Val) → Is De.the_row d vs → length d.cells ≡ 320
-cells-long d vs h = length_unmapped Float d.cells 320 h.1.1.1.0.1.0.1
+cells-long d vs h = h.1.1.1.0.1.0.1

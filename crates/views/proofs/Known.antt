@@ -1,20 +1,18 @@
 -- What owning a value tells: how long its arrays are. Assumes nothing.
 use mathlib.Core.Path.{◌≡◌}
 use mathlib.Core.List.{List}
-use lib.Ieee.{Float}
 use lib.ListN.{length}
 use mir.Val.{Val}
 use denote.Laws.{Is}
-use borrow.Author.Rules.{length_unmapped}
 use Rattle.views.specs.declared.Views.{Views}
 use Rattle.views.specs.contracts.Views as Vi
 
 module _ (v : Views) (vs : List Val) (h : Is Vi.the_row v vs) where
   pub boxes-long : length v.boxes ≡ 256
-  boxes-long = length_unmapped Float v.boxes 256 h.1.1.1.0.1.0.1
+  boxes-long = h.1.1.1.0.1.0.1
 
   pub directions-long : length v.directions ≡ 128
-  directions-long = length_unmapped Float v.directions 128 h.1.1.1.1.0.1.0.1
+  directions-long = h.1.1.1.1.0.1.0.1
 
   pub previous-long : length v.previous ≡ 320
-  previous-long = length_unmapped Float v.previous 320 h.1.1.1.1.1.1.0.1.0.1
+  previous-long = h.1.1.1.1.1.1.0.1.0.1

@@ -1,7 +1,7 @@
 -- `grants::gather` meets its contract.
 use mathlib.Core.Path.{◌≡◌, sym, ap, ◌∙◌}
 use mathlib.Core.List.{map}
-use Prim.Native.Nat.{◌-◌, ◌≤◌, ◌<◌}
+use Prim.Native.Nat.{◌<◌}
 use native.Mathlib.Omega.{arith}
 use lib.ListN.{length, get_or, take, length-map}
 use Rattle.lists.proofs.All.{all-at}
@@ -9,7 +9,6 @@ use Rattle.matching.specs.Associate.{corners_at}
 use Rattle.grants.specs.Grants.{boxes_of}
 use Rattle.grants.proofs.Known.{at_long}
 use Rattle.grants.proofs.Opening.{take-few, gather-turn, gathered-long}
-use borrow.Author.Rules.{rules}
 use Rattle.grants.proofs.gather.Goals as goal
 
 pub loop-i-init : goal.loop-i-init

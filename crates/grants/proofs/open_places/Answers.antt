@@ -1,10 +1,8 @@
 -- `grants::open_places` meets its contract.
 use mathlib.Core.Path.{◌≡◌}
-use Prim.Native.Nat.{◌-◌, ◌≤◌}
 use native.Mathlib.Omega.{arith}
-use Rattle.grants.specs.Grants.{open_in, places_of}
+use Rattle.grants.specs.Grants.{open_in}
 use Rattle.grants.proofs.Opening.{room, turn}
-use borrow.Author.Rules.{rules}
 use Rattle.grants.proofs.open_places.Goals as goal
 
 pub loop-j-init : goal.loop-j-init

@@ -1,10 +1,7 @@
 -- `grants::open_places` meets its contract.
 use mathlib.Core.Path.{◌≡◌}
 use Prim.Native.Nat.{◌-◌, ◌≤◌}
-use native.Mathlib.Omega.{arith}
 use Rattle.grants.specs.Grants.{open_in, places_of}
-use Rattle.grants.proofs.Opening.{room, turn}
-use borrow.Author.Rules.{rules}
 use Rattle.grants.proofs.open_places.Given as goal
 
 abbrev pub invariant-loop-j : goal.invariant-loop-j

@@ -1,6 +1,5 @@
 -- `grants::push_place` meets its contract.
 use Rattle.grants.specs.Grants.{pushed_place}
-use borrow.Author.Rules.{rules}
 use Rattle.grants.proofs.push_place.Goals as goal
 
 pub returns-then-passes : goal.returns-then-passes

@@ -1,20 +1,16 @@
 -- `grants::seat` meets its contract.
 use mathlib.Core.Path.{◌≡◌}
-use mathlib.Core.List.{map}
-use Prim.Native.Nat.{◌-◌, ◌≤◌}
 use native.Mathlib.Omega.{arith}
 use lib.IntN.{pos}
-use lib.ListN.{get_or, take}
+use lib.ListN.{get_or}
 use mir.Syntax.{w64}
 use mir.ValLaws.{to_z-of_z}
-use Rattle.lists.specs.Lists.{tab}
 use Rattle.lists.proofs.All.{all-at}
 use Rattle.matching.specs.Associate.{det_at}
 use Rattle.frame.specs.Rounds.{place_of}
-use Rattle.grants.specs.Grants.{seated, Names}
+use Rattle.grants.specs.Grants.{Names}
 use Rattle.grants.proofs.Known.{cells-long}
 use Rattle.grants.proofs.Seating.{turn}
-use borrow.Author.Rules.{rules}
 use Rattle.grants.proofs.seat.Goals as goal
 
 pub detection_at-requires : goal.detection_at-requires

@@ -1,12 +1,10 @@
 -- `views::all` meets its contract.
 use mathlib.Core.Path.{◌≡◌, refl, sym}
-use Prim.Native.Nat.{◌-◌, ◌≤◌, ◌<◌}
+use Prim.Native.Nat.{◌<◌}
 use native.Mathlib.Omega.{arith}
 use lib.ListN.{length}
 use Rattle.frame.specs.Rounds.{View}
 use Rattle.frame.specs.Frame.{tracked_view}
-use Rattle.lists.specs.Lists.{flat}
-use Rattle.detections.specs.Cells.{padded}
 use Rattle.detections.specs.Dets.{five_of}
 use Rattle.matching.specs.Associate.{four_of}
 use Rattle.views.specs.Views.{two_of, views_of}

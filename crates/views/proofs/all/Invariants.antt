@@ -1,17 +1,14 @@
 -- `views::all` meets its contract.
-use mathlib.Core.Path.{◌≡◌, refl, sym}
-use Prim.Native.Nat.{◌-◌, ◌≤◌, ◌<◌}
-use native.Mathlib.Omega.{arith}
-use lib.ListN.{length}
+use mathlib.Core.Path.{◌≡◌}
+use Prim.Native.Nat.{◌-◌, ◌≤◌}
 use Rattle.frame.specs.Rounds.{View}
 use Rattle.frame.specs.Frame.{tracked_view}
 use Rattle.lists.specs.Lists.{flat}
 use Rattle.detections.specs.Cells.{padded}
 use Rattle.detections.specs.Dets.{five_of}
 use Rattle.matching.specs.Associate.{four_of}
-use Rattle.views.specs.Views.{two_of, views_of}
-use Rattle.views.proofs.Seeing.{seen, seen-count, filled-long, turn}
-use borrow.Author.Rules.{rules}
+use Rattle.views.specs.Views.{two_of}
+use Rattle.views.proofs.Seeing.{seen}
 use Rattle.views.proofs.all.Given as goal
 
 abbrev pub invariant-loop-j : goal.invariant-loop-j

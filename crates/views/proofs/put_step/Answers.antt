@@ -2,7 +2,6 @@
 use native.Mathlib.Omega.{arith}
 use native.Mathlib.Numerals.{unary_clauses}
 use lib.ListN.{length-set}
-use borrow.Author.Rules.{rules}
 use Rattle.views.proofs.put_step.Goals as goal
 
 pub bounds-cells-at-2 : goal.bounds-cells-at-2

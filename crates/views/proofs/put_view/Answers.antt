@@ -9,7 +9,6 @@ use Rattle.object.specs.Object.{corners_of}
 use Rattle.frame.specs.Frame.{detection_or, view_of}
 use Rattle.detections.specs.Dets.{five_of}
 use Rattle.matching.specs.Associate.{four_of}
-use borrow.Author.Rules.{rules}
 use Rattle.views.proofs.put_view.Goals as goal
 
 pub put_detection-requires : goal.put_detection-requires
