@@ -16,7 +16,6 @@ use Rattle.grants.proofs.Known.{cells-long}
 use Rattle.views.proofs.Known.{boxes-long, directions-long, previous-long}
 use Rattle.rounds.proofs.Tying.{all_named, associate-paired, open-all, first-is}
 use Rattle.rounds.proofs.Whole.{left-fits}
-use borrow.Author.Rules.{rules}
 use Rattle.rounds.proofs.first_round.Goals as goal
 
 pub associate-marks-requires : goal.associate-marks-requires
@@ -36,8 +35,8 @@ by_marks-requires c =
     let v = s.args.v in
     let d = s.args.dets in
     let n : v.n ≡ length (open_in v.n (replicate 64 (kept_of none))) = sym (ap length (open-all v.n) ∙ length-tab (λ (j : ℕ). j) v.n) in
-    let ms : List ℤ = associate s.args.s.iou_threshold s.args.s.inertia d.n v.n (det_at d.cells-1) (corners_at v.boxes-1) (step_at v.directions-1) (det_at v.previous-1) in
-    (s.requires.1, all_named v.n (replicate 64 (kept_of none)) c.open_places-places.result d.n ms c.associate-marks.result.at s.requires.0 (c.open_places-places.ensures ∙ ap (λ (k : List Kept). places_of (open_in v.n k)) c.no_grants-none.ensures) c.associate-marks.ensures.is (subst (λ (k : ℕ). Paired d.n k ms) n (associate-paired s.args.s.iou_threshold s.args.s.inertia d.n v.n (det_at d.cells-1) (corners_at v.boxes-1) (step_at v.directions-1) (det_at v.previous-1))))
+    let ms : List ℤ = associate s.args.s.iou_threshold s.args.s.inertia d.n v.n (det_at d.cells) (corners_at v.boxes) (step_at v.directions) (det_at v.previous) in
+    (s.requires.1, all_named v.n (replicate 64 (kept_of none)) c.open_places-places.result d.n ms c.associate-marks.result.at s.requires.0 (c.open_places-places.ensures ∙ ap (λ (k : List Kept). places_of (open_in v.n k)) c.no_grants-none.ensures) c.associate-marks.ensures.is (subst (λ (k : ℕ). Paired d.n k ms) n (associate-paired s.args.s.iou_threshold s.args.s.inertia d.n v.n (det_at d.cells) (corners_at v.boxes) (step_at v.directions) (det_at v.previous))))
 
 pub returns : goal.returns
 returns c =

@@ -1,5 +1,4 @@
 -- `rounds::later_round` meets its contract.
-use borrow.Author.Rules.{rules}
 use Rattle.rounds.proofs.Whole.{later-nothing}
 use Rattle.rounds.proofs.later_round.Goals as goal
 

@@ -4,7 +4,6 @@ use lib.ListN.{take}
 use Rattle.frame.specs.Rounds.{rounds}
 use Rattle.frame.specs.Frame.{tracked_view}
 use Rattle.rounds.proofs.Whole.{few-views}
-use borrow.Author.Rules.{rules}
 use Rattle.rounds.proofs.paired.Goals as goal
 
 pub paired_by-requires : goal.paired_by-requires
@@ -16,4 +15,4 @@ pub returns : goal.returns
 unfolding rounds
 returns c =
     let s = c in
-    c.Paired-by.ensures (map (tracked_view s.args.s) (take s.args.count s.args.table)) c.all-v.ensures
+    c.paired_by.ensures (map (tracked_view s.args.s) (take s.args.count s.args.table)) c.all-v.ensures

@@ -2,7 +2,6 @@
 use Rattle.frame.specs.Objects.{Obj, objects_of, first_class, first_score}
 use Rattle.frame.specs.Rounds.{rounds}
 use Rattle.rounds.proofs.Whole.{rounds-are, few-kept}
-use borrow.Author.Rules.{rules}
 use Rattle.rounds.proofs.paired_by.Goals as goal
 
 pub first_round-first-requires : goal.first_round-first-requires

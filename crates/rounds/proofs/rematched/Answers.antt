@@ -12,7 +12,6 @@ use Rattle.grants.specs.Grants.{open_in}
 use Rattle.grants.proofs.Known.{cells-long}
 use Rattle.grants.proofs.Opening.{few, open-below, all-below, places-below, places_count, opened, targets-long}
 use Rattle.rounds.proofs.Tying.{all_named, reassociate-paired, later-is}
-use borrow.Author.Rules.{rules}
 use Rattle.rounds.proofs.rematched.Goals as goal
 
 pub gather-targets-requires : goal.gather-targets-requires
@@ -38,8 +37,8 @@ by_marks-requires c =
     let d = s.args.dets in
     let p = c.open_places-places.result in
     let n : p.n ≡ length (open_in s.args.count s.args.grants) = ap (λ (x : Places). x.n) c.open_places-places.ensures ∙ places_count (open_in s.args.count s.args.grants) in
-    let ms : List ℤ = reassociate s.args.thr d.n p.n (det_at d.cells-1) (corners_at c.gather-targets.result) in
-    (s.requires.1, all_named s.args.count s.args.grants p d.n ms c.simple_iou_match-marks.result.at s.requires.0 c.open_places-places.ensures c.simple_iou_match-marks.ensures.is (subst (λ (k : ℕ). Paired d.n k ms) n (reassociate-paired s.args.thr d.n p.n (det_at d.cells-1) (corners_at c.gather-targets.result))))
+    let ms : List ℤ = reassociate s.args.thr d.n p.n (det_at d.cells) (corners_at c.gather-targets.result) in
+    (s.requires.1, all_named s.args.count s.args.grants p d.n ms c.simple_iou_match-marks.result.at s.requires.0 c.open_places-places.ensures c.simple_iou_match-marks.ensures.is (subst (λ (k : ℕ). Paired d.n k ms) n (reassociate-paired s.args.thr d.n p.n (det_at d.cells) (corners_at c.gather-targets.result))))
 
 pub returns : goal.returns
 returns c =
