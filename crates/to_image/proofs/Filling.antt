@@ -1,19 +1,17 @@
 -- Tracks written one after another into an image's lists, the cells past them cleared, and what image that makes. Assumes nothing.
 use mathlib.Core.Path.{◌≡◌, refl, sym, ap, ap₂, ◌∙◌}
 use mathlib.Core.Bool.{true}
-use lib.Dec.{eqb}
 use mathlib.Core.List.{List, [], ◌∷◌, ◌++◌, map, append-nil}
 use Prim.Native.Nat.{ℕ, zero, suc, ◌+◌, ◌-◌, ◌*◌, ◌≤◌, ◌<◌}
 use native.Mathlib.Nat.{add_comm, mul-zero, mul-suc}
 use native.Mathlib.Numerals.{add-one}
 use native.Mathlib.Omega.{arith}
-use borrow.Author.Tests.{leb-true, eqb-true}
+use borrow.Author.Tests.{leb-true}
 use lib.Ieee.{Float, nan}
 use lib.ListN.{length, take, drop, get_or, set, replicate, length-append, length-map, length-replicate, replicate-append-replicate, drop_of_length-le}
 use lib.Seq.{sets, sets-eq, length-sets, take-append_seam, take-suc, take_all, length-take-le}
 use Rattle.lists.specs.Lists.{flat, All}
 use Rattle.lists.proofs.All.{map-append, flat_append, flat-long, all_append}
-use Rattle.lapjv_walk.proofs.Cases.{and_left, and_right}
 use Rattle.strack.specs.Track.{no_filter}
 use Rattle.frame.specs.declared.Tracked.{Tracked}
 use Rattle.frame.specs.declared.Tracker.{Tracker}

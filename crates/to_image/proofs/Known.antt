@@ -1,5 +1,5 @@
 -- What owning a state tells of its tracks: their lists are as long as their types say, and their numbers fill their cells. Assumes nothing.
-use mathlib.Core.List.{List, [], ◌∷◌, map}
+use mathlib.Core.List.{List, [], ◌∷◌}
 use mir.Val.{Val}
 use base.Fml.{Fml}
 use denote.Shadow.{shadow}
@@ -26,14 +26,14 @@ shaped e vs p =
     }
 
 -- what holds of each element of an array
-all_of_each : {X D : Type 0} (f : D → List Val → Fml) (to : X → D) (Q : X → Type 0) → ((x : X) (vs : List Val) → shadow (f (to x) vs) → Q x) → (xs : List X) (us : List Val) → shadow (each D f (map to xs) us) → All Q xs
-all_of_each f to Q h [] us p = tt
-all_of_each f to Q h (x ∷ xs) [] p = absurd p
-all_of_each f to Q h (x ∷ xs) (u ∷ us) p = (h x (u ∷ []) p.0, all_of_each f to Q h xs us p.1)
+all_of_each : {X : Type 0} (f : X → List Val → Fml) (Q : X → Type 0) → ((x : X) (vs : List Val) → shadow (f x vs) → Q x) → (xs : List X) (us : List Val) → shadow (each X f xs us) → All Q xs
+all_of_each f Q h [] us p = tt
+all_of_each f Q h (x ∷ xs) [] p = absurd p
+all_of_each f Q h (x ∷ xs) (u ∷ us) p = (h x (u ∷ []) p.0, all_of_each f Q h xs us p.1)
 
 module _ (t : Tracker) (vs : List Val) (h : Is Tr.the_row t vs) where
   pub all-shaped : All Shaped t.table
-  all-shaped = all_of_each (Td.the_field).row.own_val (Td.the_type).to Shaped shaped t.table _ h.1.1.1.1.1.1.0.1.1
+  all-shaped = all_of_each (Td.the_row).own_val Shaped shaped t.table _ h.1.1.1.1.1.1.0.1.1
 
   pub all-full : All Full t.table
-  all-full = all_of_each (Td.the_field).row.own_val (Td.the_type).to Full full t.table _ h.1.1.1.1.1.1.0.1.1
+  all-full = all_of_each (Td.the_row).own_val Full full t.table _ h.1.1.1.1.1.1.0.1.1

@@ -1,5 +1,5 @@
 -- A track written: how many numbers it has, and its writes one after another. Assumes nothing.
-use mathlib.Core.Path.{◌≡◌, refl, sym, ap, ◌∙◌}
+use mathlib.Core.Path.{◌≡◌, refl, ap, ◌∙◌}
 use mathlib.Core.List.{List, ◌++◌, map}
 use Prim.Native.Nat.{ℕ, ◌+◌, ◌*◌, ◌≤◌}
 use native.Mathlib.Numerals.{unary_clauses}
@@ -9,7 +9,6 @@ use lib.ListN.{length, set, take, length-map, length-append}
 use lib.Seq.{sets, length-take-le}
 use mir.Val.{Val}
 use denote.Laws.{Is}
-use borrow.Author.Rules.{length_unmapped}
 use Rattle.lists.specs.Lists.{flat}
 use Rattle.lists.proofs.All.{all_any, flat-long}
 use Rattle.kalman_filter.specs.declared.Filter.{Filter}
@@ -22,7 +21,6 @@ use Rattle.strack.specs.declared.Direction.{Direction}
 use Rattle.strack.specs.declared.Direction.TheVariants.{Unknown, Known}
 use Rattle.strack.specs.declared.Kept.{Kept}
 use Rattle.strack.specs.declared.Track.{Track}
-use Rattle.strack.specs.contracts.Kept as Ke
 use Rattle.strack.specs.contracts.Track as Tr
 use Rattle.frame.specs.declared.Tracked.{Tracked}
 use Rattle.frame.specs.contracts.Tracked as Td
@@ -33,10 +31,10 @@ use Rattle.to_image.proofs.Sets.{sets-next}
 
 module _ (f : Filter) (vs : List Val) (h : Is Fi.the_row f vs) where
   pub x-long : length f.x ≡ 7
-  x-long = length_unmapped Float f.x 7 h.1.1.0.1.0.1
+  x-long = h.1.1.0.1.0.1
 
   pub p-long : length f.p ≡ 49
-  p-long = length_unmapped Float f.p 49 h.1.1.1.0.1.0.1
+  p-long = h.1.1.1.0.1.0.1
 
   pub filter-long : length (filter_floats f) ≡ 56
   filter-long = omega (arith, length-append f.x f.p, x-long, p-long)
@@ -62,7 +60,7 @@ first-long ks j h = boxes-long (take j ks) ∙ ap (λ (n : ℕ). 5 * n) (length-
 
 module _ (t : Track) (vs : List Val) (h : Is Tr.the_row t vs) where
   pub kept-long : length t.kept ≡ 8
-  kept-long = sym (length-map t.kept (Ke.the_type).to) ∙ h.1.1.1.1.1.1.1.1.1.1.1.0.1.0.1
+  kept-long = h.1.1.1.1.1.1.1.1.1.1.1.0.1.0.1
 
   pub first-filter : length (filter_floats t.filter) ≡ 56
   first-filter = filter-long t.filter _ h.1.1.0
