@@ -27,7 +27,7 @@ use Rattle.tracks.proofs.Table as table
 use Rattle.image.specs.declared.TrackerImage.{TrackerImage}
 use Rattle.image.specs.Image.{Cell, decode_track, decode_tracker, meant_track, meant, cell_at, cells, issued_in, count_in, frames_in}
 use Rattle.frame_in_lists.specs.declared.Ahead.{Ahead}
-use Rattle.frame_in_lists.specs.InPlace.{settings_in, usable_totals, track_in, AheadOf}
+use Rattle.frame_in_lists.specs.InPlace.{settings_in, usable_totals, AheadOf}
 use Rattle.frame_in_lists.proofs.Parts.{bounds}
 use Rattle.frame_in_lists.proofs.Testing.{tracks, usable, usable-passed, usable-failed, usable-all, bad-tracks, all-usable}
 use Rattle.frame_in_lists.proofs.Turns.{Holds, holds-none, holds_more}
