@@ -1,5 +1,4 @@
 -- `new_in_lists::begin` meets its contract.
-use borrow.Author.Rules.{rules}
 use Rattle.new_in_lists.proofs.Begins.{made, kept}
 use Rattle.new_in_lists.proofs.begin.Goals as goal
 

@@ -1,5 +1,4 @@
 -- `new_in_lists::new` meets its contract.
-use borrow.Author.Rules.{rules}
 use mathlib.Core.Path.{ap}
 use Rattle.new_in_lists.specs.Making.{fresh_of}
 use Rattle.new_in_lists.proofs.Begins.{begins-as}

@@ -1,5 +1,4 @@
 -- `new_in_lists::with_settings` meets its contract.
-use borrow.Author.Rules.{rules}
 use native.Mathlib.Omega.{arith}
 use Rattle.new_in_lists.proofs.Begins.{begins-as, third-tag, with_tag}
 use Rattle.new_in_lists.proofs.with_settings.Goals as goal
