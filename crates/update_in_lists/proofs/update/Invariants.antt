@@ -1,0 +1,43 @@
+-- `update_in_lists::update` meets its contract.
+use borrow.Author.Rules.{rules}
+use borrow.Author.Tests.{not-true, not-false}
+use mathlib.Core.Path.{◌≡◌, refl, sym, ap, subst, ◌∙◌}
+use mathlib.Core.Logic.{⊎_elim}
+use Prim.Native.Nat.{ℕ, ◌+◌, ◌-◌, ◌≤◌}
+use native.Mathlib.Omega.{arith}
+use lib.ListN.{length-replicate}
+use Rattle.image.specs.Image.{image_of, decode_tracker}
+use Rattle.views.specs.declared.Views.{Views}
+use Rattle.frame_in_lists.proofs.Testing.{bad-totals}
+use Rattle.frame_in_lists.proofs.Looking.{Looked, looked-first, looked-count, looked-delta, looked-few, looked-long, looked-failed, looked-left, looked-taken}
+use Rattle.update_in_lists.proofs.Stepping.{unusable}
+use Rattle.update_in_lists.proofs.Settling.{replied-as, looked-as, is-clear, early-refused, opened, opened-few, opened-left, full-refused, opened-paired, pairing_of, Giving, giving-first, giving-few, giving-ahead, can-give, giving-taken, giving-left, giving-as, giving-done, Bearing, bearing-first, bearing-room, bearing-ids, bearing-long, bearing-turn, bearing-done, Telling, telling-first, telling-live, telling-boxes, telling-ids, can-tell, telling-turn, telling-done}
+use Rattle.update_in_lists.proofs.update.Given as goal
+
+abbrev pub invariant-loop-u : goal.invariant-loop-u
+invariant-loop-u l =
+    Looked (image_of l.wide l.floats l.words) l.s l.table l.seen l.steps l.lasts l.olds l.from l.ahead l.u
+
+abbrev pub decreases-loop-u : goal.decreases-loop-u
+decreases-loop-u l = l.count - l.u
+
+abbrev pub invariant-loop-g : goal.invariant-loop-g
+invariant-loop-g l =
+    Giving (image_of l.wide l.floats l.words) l.s l.input l.boxes l.ids (pairing_of l.grants l.born l.cells) l.ahead l.initial.table l.table l.young l.g
+
+abbrev pub decreases-loop-g : goal.decreases-loop-g
+decreases-loop-g l = l.ahead - l.g
+
+abbrev pub invariant-loop-b : goal.invariant-loop-b
+invariant-loop-b l =
+    Bearing (image_of l.wide l.floats l.words) l.s l.input l.boxes l.ids l.born l.cells l.young l.table l.b
+
+abbrev pub decreases-loop-b : goal.decreases-loop-b
+decreases-loop-b l = l.born - l.b
+
+abbrev pub invariant-loop-r : goal.invariant-loop-r
+invariant-loop-r l =
+    Telling (image_of l.initial.wide l.initial.floats l.initial.words) l.s l.input l.initial.boxes l.initial.ids l.born l.live l.table (image_of l.wide l.floats l.words) l.boxes l.ids l.reported l.r
+
+abbrev pub decreases-loop-r : goal.decreases-loop-r
+decreases-loop-r l = l.r
