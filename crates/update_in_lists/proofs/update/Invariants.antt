@@ -1,17 +1,8 @@
 -- `update_in_lists::update` meets its contract.
-use borrow.Author.Rules.{rules}
-use borrow.Author.Tests.{not-true, not-false}
-use mathlib.Core.Path.{◌≡◌, refl, sym, ap, subst, ◌∙◌}
-use mathlib.Core.Logic.{⊎_elim}
-use Prim.Native.Nat.{ℕ, ◌+◌, ◌-◌, ◌≤◌}
-use native.Mathlib.Omega.{arith}
-use lib.ListN.{length-replicate}
-use Rattle.image.specs.Image.{image_of, decode_tracker}
-use Rattle.views.specs.declared.Views.{Views}
-use Rattle.frame_in_lists.proofs.Testing.{bad-totals}
-use Rattle.frame_in_lists.proofs.Looking.{Looked, looked-first, looked-count, looked-delta, looked-few, looked-long, looked-failed, looked-left, looked-taken}
-use Rattle.update_in_lists.proofs.Stepping.{unusable}
-use Rattle.update_in_lists.proofs.Settling.{replied-as, looked-as, is-clear, early-refused, opened, opened-few, opened-left, full-refused, opened-paired, pairing_of, Giving, giving-first, giving-few, giving-ahead, can-give, giving-taken, giving-left, giving-as, giving-done, Bearing, bearing-first, bearing-room, bearing-ids, bearing-long, bearing-turn, bearing-done, Telling, telling-first, telling-live, telling-boxes, telling-ids, can-tell, telling-turn, telling-done}
+use Prim.Native.Nat.{◌-◌}
+use Rattle.image.specs.Image.{image_of}
+use Rattle.frame_in_lists.proofs.Looking.{Looked}
+use Rattle.update_in_lists.proofs.Settling.{pairing_of, Giving, Bearing, Telling}
 use Rattle.update_in_lists.proofs.update.Given as goal
 
 abbrev pub invariant-loop-u : goal.invariant-loop-u
