@@ -1,4 +1,4 @@
-// The exported frame call in its plain form: the whole image is converted there and back. tests/boundary holds `satinjacks_update_lists` against it.
+// The exported frame call in its plain form, behind the symbol of crate `by_value`: the whole image is converted there and back. tests/boundary holds `satinjacks_update_lists` against it.
 #![tactic(auto)]
 
 ghost use Rattle.update_in_lists.specs.Host.{Hosted};
@@ -14,8 +14,7 @@ pub struct Stepped {
 }
 
 // One frame, by value: a refusal returns the image as it came. No refusal has number 0.
-#[unsafe(no_mangle)]
-pub extern "C" fn satinjacks_update_by_value(
+pub fn satinjacks_update_by_value(
     i: TrackerImage,
     input: &[f32],
     boxes: &mut [f32],

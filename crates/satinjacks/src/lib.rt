@@ -69,12 +69,7 @@ pub struct AssignReply {
 }
 
 // Pairs n rows and n columns by their costs, given row after row.
-pub fn satinjacks_assign(
-    n: usize,
-    cost: &[f64],
-    x: &mut [i64],
-    y: &mut [i64],
-) -> AssignReply
+pub fn satinjacks_assign(n: usize, cost: &[f64], x: &mut [i64], y: &mut [i64]) -> AssignReply
     ensures { (a : Assigned) × ((result.number ≡ number_of a) × Answer n cost.now x.old y.old a result.reads x.new y.new) }
 {
     let solved = lapjv::lapjv(n, cost, x, y);
@@ -86,12 +81,7 @@ pub fn satinjacks_assign(
 }
 
 // Pairs them by whole costs, at the least total (document 02, 2.3).
-pub fn satinjacks_assign_whole(
-    n: usize,
-    cost: &[i64],
-    x: &mut [i64],
-    y: &mut [i64],
-) -> u64
+pub fn satinjacks_assign_whole(n: usize, cost: &[i64], x: &mut [i64], y: &mut [i64]) -> u64
     ensures { (a : Assigned) × ((result ≡ number_of a) × WholeAnswer n cost.now x.old y.old a x.new y.new) }
 {
     lapjv::told(lapint::lapint(n, cost, x, y))

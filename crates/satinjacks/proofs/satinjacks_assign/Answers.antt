@@ -1,0 +1,5 @@
+-- `satinjacks::satinjacks_assign` meets its contract.
+use Rattle.satinjacks.proofs.satinjacks_assign.Goals as goal
+
+pub returns : goal.returns
+returns c = (_, (c.told.ensures, c.lapjv-solved.ensures))
