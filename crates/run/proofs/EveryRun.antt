@@ -9,7 +9,7 @@ use lib.Dec.{eqb, ltb, leb}
 use lib.Ieee.{Float}
 use lib.ListN.{length}
 use contract.Lifetimes.{Lfts}
-use denote.Ref.{Bor}
+use Rattle.std.specs.Borrow.{Bor, MutBor}
 use borrow.Author.Tests.{eqb-true, eqb-false, ne_eqb, leb-true, leb-false}
 use Rattle.lent_tracker.specs.declared.Told.{Told}
 use Rattle.lists.specs.Lists.{pick, sum_of, All}
@@ -343,6 +343,10 @@ no_lifetimes₄ = ([], no_lifetimes)
 abbrev pub ref : {X : Type 0} → X → Bor X
 ref x = record { ref_ptr = (0, 0); now = x }
 
+-- the same of a reference that the call writes through
+abbrev pub mut_ref : {X : Type 0} → X → MutBor X
+mut_ref x = record { ref_ptr = (0, 0); ghost_name = 0; now = x }
+
 module _ (t : Tracker) (b : Brought) where
   abbrev reply : Reply
   reply = (frame_of t (call_of b.input b.boxes b.ids)).reply
@@ -355,20 +359,20 @@ module _ (t : Tracker) (b : Brought) where
 
   -- the call, and the buffers as it leaves them
   abbrev asked : update.Dens no_lifetimes
-  asked = (t, (ref b.input, (ref b.boxes, (ref b.ids, tt))))
+  asked = (t, (ref b.input, (mut_ref b.boxes, (mut_ref b.ids, tt))))
 
   abbrev gone : update.Exit no_lifetimes
-  gone = (t, (ref b.input, (ref (boxes_after reply b.boxes), (ref (ids_after reply b.ids), tt))))
+  gone = (t, (ref b.input, (mut_ref (boxes_after reply b.boxes), (mut_ref (ids_after reply b.ids), tt))))
 
   -- the same in place
   abbrev told : Told
   told = record { outcome = answer.outcome; count = answer.count }
 
   abbrev asked_in : lent-call.Dens no_lifetimes₄
-  asked_in = (ref t, (ref b.input, (ref b.boxes, (ref b.ids, tt))))
+  asked_in = (mut_ref t, (ref b.input, (mut_ref b.boxes, (mut_ref b.ids, tt))))
 
   abbrev gone-in : lent-call.Exit no_lifetimes₄
-  gone-in = (ref answer.tracker, (ref b.input, (ref (boxes_after reply b.boxes), (ref (ids_after reply b.ids), tt))))
+  gone-in = (mut_ref answer.tracker, (ref b.input, (mut_ref (boxes_after reply b.boxes), (mut_ref (ids_after reply b.ids), tt))))
 
   once : {s : Settings} {xs : List Event} → Run s xs t → (way : Bool) → (x : Event) × Run s (x ∷ xs) answer.tracker × (brought_to x ≡ record { in_place = way; input = b.input; boxes = b.boxes; ids = b.ids })
   once r false = (frame (seen_of no_lifetimes asked answer gone), called r no_lifetimes asked answer gone answer-to refl, refl)

@@ -21,19 +21,17 @@ use Rattle.strack.specs.declared.Track.{Track}
 use Rattle.strack.specs.declared.LastBox.{LastBox}
 use Rattle.strack.specs.Track.{state_box, track_predict, birth_of}
 use Rattle.history.specs.Uncut.{predicted}
-use Rattle.history.specs.Replay as Replay
 use Rattle.history.specs.Replay.{replay, cut}
 use Rattle.history.proofs.Sound.{replay-sound}
 use Rattle.history.proofs.Cut.{cut-born, cut-boxed, cut-missed, k-previous-cut}
 use Rattle.frame.specs.declared.Settings.{Settings}
 use Rattle.frame.specs.declared.Tracked.{Tracked}
 use Rattle.frame.specs.declared.Tracker.{Tracker}
-use Rattle.frame.specs.State as State
 use Rattle.frame.specs.State.{in_range, unit_range, state_of, state_rules}
 use Rattle.frame.specs.Objects.{Obj, objects_of}
 use Rattle.frame.specs.Rounds.{View, Grant, Slot, Work, rounds}
 use Rattle.frame.specs.Frame.{Call, reports, Out, early, detection_or, step_or, view_of, tracked_view, with_track, predict_tracked, unbroken, predicted_tracks, give, give_all, births, is_reported, report_of, snoc_if, reports_of, is_young, settled, accepted_frame, frame_at, frame_of}
-use Rattle.run_book.specs.Book.{box, Status, open', broken, agedOut, Entry, Book, line_of, replayed, track_of, is_open, live, book_state, closed_by, with_status, breaks, break_entry, is_old, age_entry, view_of_entry, next_line, with_line, written, write, opened, entered, rounds_of, enter_at, enter}
+use Rattle.run_book.specs.Book.{Status, open', broken, agedOut, Entry, Book, line_of, replayed, track_of, is_open, live, book_state, closed_by, with_status, breaks, break_entry, is_old, age_entry, view_of_entry, next_line, with_line, written, write, opened, entered, rounds_of, enter_at, enter}
 use Rattle.frame.proofs.StaysSound.{live_of}
 use Rattle.frame.proofs.Seats.{rounds-length}
 use Rattle.lapjv_walk.proofs.Cases.{and_right}
