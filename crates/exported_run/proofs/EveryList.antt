@@ -2,7 +2,6 @@
 use mathlib.Core.Path.{◌≡◌, refl, sym, ap, ap₂, subst, ◌∙◌}
 use mathlib.Core.Bool.{Bool, true}
 use mathlib.Core.List.{List, [], ◌∷◌, map}
-use Prim.Native.Nat.{ℕ}
 use contract.Lifetimes.{Lfts}
 use Rattle.lists.specs.Lists.{pick}
 use Rattle.object.specs.Refusal.{number_of}
@@ -23,11 +22,10 @@ use Rattle.update_in_lists.specs.Host.{frame_on, reply_of, Hosted}
 use Rattle.lent_tracker.specs.declared.Told.{Told}
 use Rattle.run.specs.Lent as lent-call
 use Rattle.run.specs.Run.{Event, frame, Run, lent}
-use Rattle.run.proofs.EveryRun.{no_lifetimes, no_lifetimes₄, ref, started, every-run}
+use Rattle.run.proofs.EveryRun.{no_lifetimes, no_lifetimes₄, ref, mut_ref, started, every-run}
 use Rattle.exported_run.specs.Calls.{lists_of, Shown, shown_of, Calls, made_new, made_with, called, refused_new, refused-with, seen_as, Alike, none, one_more, IsRun, Brought, brought_to, EveryList}
 use Rattle.exported_run.proofs.Shape.{empty-faithful}
 use Rattle.exported_run.proofs.Steps.{Stands, stands-for, Begun, new-begins, with-begins, refusal-keeps, stands_after, answer, framed, number-told}
-use Rattle.exported_run.specs.New as new
 use Rattle.exported_run.specs.WithSettings as with_settings
 use Rattle.exported_run.specs.Update as update
 
@@ -54,10 +52,10 @@ module _ (s : Settings) (ys : List Shown) (i : TrackerImage) (d : Runs s ys i) (
   told = record { outcome = o; count = y.reply.count }
 
   abbrev asked_in : lent-call.Dens no_lifetimes₄
-  asked_in = (ref (decode_tracker i), (ref y.input, (ref y.boxes, (ref y.ids, tt))))
+  asked_in = (mut_ref (decode_tracker i), (ref y.input, (mut_ref y.boxes, (mut_ref y.ids, tt))))
 
   abbrev gone-in : lent-call.Exit no_lifetimes₄
-  gone-in = (ref (decode_tracker y.lists_left), (ref y.input, (ref y.boxes_left, (ref y.ids_left, tt))))
+  gone-in = (mut_ref (decode_tracker y.lists_left), (ref y.input, (mut_ref y.boxes_left, (mut_ref y.ids_left, tt))))
 
   next-run : Runs s (y ∷ ys) y.lists_left
   next-run = record {
@@ -123,10 +121,10 @@ module _ (s : Settings) where
   made = begun at-hand (fresh_with passed)
 
   abbrev asked-with : with_settings.Dens no_lifetimes
-  asked-with = (ref at-hand.wide, (ref at-hand.floats, (ref at-hand.words, (passed, tt))))
+  asked-with = (mut_ref at-hand.wide, (mut_ref at-hand.floats, (mut_ref at-hand.words, (passed, tt))))
 
   abbrev gone_with : with_settings.Exit no_lifetimes
-  gone_with = (ref made.wide, (ref made.floats, (ref made.words, (passed, tt))))
+  gone_with = (mut_ref made.wide, (mut_ref made.floats, (mut_ref made.words, (passed, tt))))
 
   made-first : in_range s ≡ true → Calls s [] made
   made-first fine = made_with no_lifetimes asked-with (fresh_with passed).number gone_with (refl, refl) (told_none fine) passed-back
@@ -139,10 +137,10 @@ module _ (i : TrackerImage) (b : Brought) where
   done = frame_on i (call_of b.input b.boxes b.ids)
 
   abbrev asked : update.Dens no_lifetimes₆
-  asked = (ref i.wide, (ref i.floats, (ref i.words, (ref b.input, (ref b.boxes, (ref b.ids, tt))))))
+  asked = (mut_ref i.wide, (mut_ref i.floats, (mut_ref i.words, (ref b.input, (mut_ref b.boxes, (mut_ref b.ids, tt))))))
 
   abbrev gone : update.Exit no_lifetimes₆
-  gone = (ref done.next.wide, (ref done.next.floats, (ref done.next.words, (ref b.input, (ref (boxes_after done.reply b.boxes), (ref (ids_after done.reply b.ids), tt))))))
+  gone = (mut_ref done.next.wide, (mut_ref done.next.floats, (mut_ref done.next.words, (ref b.input, (mut_ref (boxes_after done.reply b.boxes), (mut_ref (ids_after done.reply b.ids), tt))))))
 
   abbrev shown : Shown
   shown = shown_of no_lifetimes₆ asked (reply_of done.reply) gone

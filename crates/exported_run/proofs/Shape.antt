@@ -1,5 +1,5 @@
 -- A frame leaves the lists of a state as long as their types say, so the image of the state that it leaves is faithful. Assumes nothing.
-use mathlib.Core.Path.{◌≡◌, refl, ◌∙◌}
+use mathlib.Core.Path.{◌≡◌, refl}
 use mathlib.Core.Bool.{Bool, true, false}
 use mathlib.Core.Option.{Option, none, some}
 use mathlib.Core.List.{List, [], ◌∷◌, ◌++◌, map}
@@ -33,7 +33,7 @@ use Rattle.frame.specs.declared.Tracker.{Tracker}
 use Rattle.frame.specs.State.{blank, live, state_of, empty_tracker, state_rules}
 use Rattle.frame.specs.Objects.{Obj}
 use Rattle.frame.specs.Rounds.{Grant, Slot, Work}
-use Rattle.frame.specs.Frame.{Call, Report, refused, reports, early, with_track, predict_tracked, unbroken, predicted_tracks, give, give_all, births, is_young, rounds_over, is_full, settled, frame_at, frame_of}
+use Rattle.frame.specs.Frame.{Call, Report, reports, early, with_track, predict_tracked, unbroken, predicted_tracks, give, give_all, births, is_young, rounds_over, is_full, settled, frame_at, frame_of}
 use Rattle.frame.proofs.Promises.{refused-reports}
 use Rattle.frame.proofs.Rising.{with_born, given}
 use Rattle.frame.proofs.StaysSound.{left-few}

@@ -1,7 +1,7 @@
 -- Demand 3 for what C and Rust link: lists of exported calls, and the claim that each is a run. Definitions only.
 use Rattle.std.specs.Prelude.{◌≡◌, true, List, [], ◌∷◌, map, ℕ, Float}
 use contract.Lifetimes.{Lfts}
-use Rattle.std.specs.Borrow.{Bor}
+use Rattle.std.specs.Borrow.{MutBor}
 use Rattle.update_in_lists.specs.declared.Reply.{Reply}
 use Rattle.new_in_lists.specs.Making.{decode_settings}
 use Rattle.image.specs.declared.TrackerImage.{TrackerImage}
@@ -19,7 +19,7 @@ use Rattle.exported_run.specs.Update as update
 -- ---- lists of calls
 
 -- the image in the three lists that a call was lent, or that it left: they are the first three of its arguments
-abbrev pub lists_of : {X : Type 0} → Bor (List ℕ) × (Bor (List Float) × (Bor (List ℕ) × X)) → TrackerImage
+abbrev pub lists_of : {X : Type 0} → MutBor (List ℕ) × (MutBor (List Float) × (MutBor (List ℕ) × X)) → TrackerImage
 lists_of a = image_of a.0.now a.1.0.now a.1.1.0.now
 
 -- a frame as its caller sees it: what went in, the reply, and what the call left

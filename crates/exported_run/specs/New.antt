@@ -1,5 +1,5 @@
 -- What a caller learns of `satinjacks::satinjacks_new_lists`: its own `ensures`, read off as the prover reads it. Definitions only.
-use Rattle.std.specs.Prelude.{◌≡◌, refl, ℕ}
+use Rattle.std.specs.Prelude.{refl, ℕ}
 use base.Logic.{emp}
 use contract.Lifetimes.{Lfts}
 use denote.Triple.Clauses.{AtExit}
