@@ -1,14 +1,20 @@
-// The exported symbol of the frame call in its plain form, libby_value.a: it calls the function of crate `check_by_value` of its name, under the same contract.
+// The exported frame call in its plain form, behind the symbol of crate `by_value`: the whole image is converted there and back. tests/boundary holds `satinjacks_update_lists` against it.
 #![tactic(auto)]
 
 ghost use Rattle.update_in_lists.specs.Host.{Hosted};
 
-use check_by_value::Stepped;
 use image::TrackerImage;
+use update_in_lists::Reply;
+
+#[repr(C)]
+#[derive(Clone, Copy)]
+pub struct Stepped {
+    pub image: TrackerImage,
+    pub reply: Reply,
+}
 
 // One frame, by value: a refusal returns the image as it came. No refusal has number 0.
-#[unsafe(no_mangle)]
-pub extern "C" fn satinjacks_update_by_value(
+pub fn satinjacks_update_by_value(
     i: TrackerImage,
     input: &[f32],
     boxes: &mut [f32],
@@ -16,5 +22,32 @@ pub extern "C" fn satinjacks_update_by_value(
 ) -> Stepped
     ensures { Hosted i input.now boxes.old ids.old result.image result.reply boxes.new ids.new }
 {
-    check_by_value::satinjacks_update_by_value(i, input, boxes, ids)
+    if !image::is_meant(i) {
+        return Stepped {
+            image: i,
+            reply: Reply {
+                number: 1,
+                count: 0,
+            },
+        };
+    }
+    let t = from_image::thaw(i);
+    let answer = oc_sort_tracker::update(t, input, boxes, ids);
+    let outcome = answer.outcome;
+    let number = making::told(outcome);
+    if number != 0 {
+        return Stepped {
+            image: i,
+            reply: Reply { number, count: 0 },
+        };
+    }
+    let next = answer.tracker;
+    let image = to_image::freeze(next);
+    Stepped {
+        image,
+        reply: Reply {
+            number,
+            count: answer.count,
+        },
+    }
 }

@@ -14,12 +14,12 @@ use Rattle.frame.specs.Frame.{Out, boxes_after, ids_after}
 use Rattle.frame.specs.Contract.{told_of, made_of, call_of}
 use Rattle.oc_sort_tracker.specs.New.{defaults}
 use Rattle.image.specs.declared.TrackerImage.{TrackerImage}
-use Rattle.image.specs.Image.{flag_of, encode_tracker, decode_tracker}
+use Rattle.image.specs.Image.{flag_of, freeze_tracker, thaw_tracker}
 use Rattle.to_image.proofs.Back.{flag-back, flag-tagged}
-use Rattle.new_in_lists.specs.declared.SettingsImage.{SettingsImage}
-use Rattle.new_in_lists.specs.Making.{decode_settings, fresh_of, fresh_with, begun}
+use Rattle.making.specs.declared.SettingsImage.{SettingsImage}
+use Rattle.making.specs.Making.{thaw_settings, fresh_of, fresh_with, begun}
 use Rattle.update_in_lists.specs.Host.{frame_on, reply_of, Hosted}
-use Rattle.lent_tracker.specs.declared.Told.{Told}
+use Rattle.lent.specs.declared.Told.{Told}
 use Rattle.run.specs.Lent as lent-call
 use Rattle.run.specs.Run.{Event, frame, Run, lent}
 use Rattle.run.proofs.EveryRun.{no_lifetimes, no_lifetimes₄, ref, mut_ref, started, every-run}
@@ -34,12 +34,12 @@ use Rattle.exported_run.specs.Update as update
 pub record Runs (s : Settings) (ys : List Shown) (i : TrackerImage) : Type 0 where
   pub events : List Event
   pub alike : Alike ys events
-  pub run : Run s events (decode_tracker i)
+  pub run : Run s events (thaw_tracker i)
   pub stands : Stands i
 
 first_run : (q s : Settings) (i : TrackerImage) → Begun q i → q ≡ s → Runs s [] i
 first_run q s i b k =
-    let e : i ≡ encode_tracker (empty_tracker s) = b.1 ∙ ap (λ (x : Settings). encode_tracker (empty_tracker x)) k in
+    let e : i ≡ freeze_tracker (empty_tracker s) = b.1 ∙ ap (λ (x : Settings). freeze_tracker (empty_tracker x)) k in
     let st = stands-for i (empty_tracker s) (empty-faithful s) e in
     record { events = []; alike = none; run = subst (Run s []) (sym st.0) (started s (subst (λ (x : Settings). in_range x ≡ true) k b.0)); stands = st.1 }
 
@@ -52,10 +52,10 @@ module _ (s : Settings) (ys : List Shown) (i : TrackerImage) (d : Runs s ys i) (
   told = record { outcome = o; count = y.reply.count }
 
   abbrev asked_in : lent-call.Dens no_lifetimes₄
-  asked_in = (mut_ref (decode_tracker i), (ref y.input, (mut_ref y.boxes, (mut_ref y.ids, tt))))
+  asked_in = (mut_ref (thaw_tracker i), (ref y.input, (mut_ref y.boxes, (mut_ref y.ids, tt))))
 
   abbrev gone-in : lent-call.Exit no_lifetimes₄
-  gone-in = (mut_ref (decode_tracker y.lists_left), (ref y.input, (mut_ref y.boxes_left, (mut_ref y.ids_left, tt))))
+  gone-in = (mut_ref (thaw_tracker y.lists_left), (ref y.input, (mut_ref y.boxes_left, (mut_ref y.ids_left, tt))))
 
   next-run : Runs s (y ∷ ys) y.lists_left
   next-run = record {
@@ -72,7 +72,7 @@ runs : {s : Settings} {ys : List Shown} {i : TrackerImage} → Calls s ys i → 
 runs {s} (made_new κs a n e h z k) =
     first_run (defaults a.1.1.1.0) s (lists_of e) (new-begins (defaults a.1.1.1.0) (lists_of a) (lists_of e) (sym z ∙ h.0) h.1) k
 runs {s} (made_with κs a n e h z k) =
-    first_run (decode_settings a.1.1.1.0) s (lists_of e) (with-begins a.1.1.1.0 (lists_of a) (lists_of e) (sym z ∙ h.0) h.1) k
+    first_run (thaw_settings a.1.1.1.0) s (lists_of e) (with-begins a.1.1.1.0 (lists_of a) (lists_of e) (sym z ∙ h.0) h.1) k
 runs {s} (called {ys} {i} c κs a r e h same) = next-run s ys i (runs c) (shown_of κs a r e) (subst (λ (x : TrackerImage). HostedFrom x (shown_of κs a r e)) same h)
 runs {s} (refused_new {ys} {i} c κs a n e h same z) =
     subst (Runs s ys) (sym (refusal-keeps (fresh_of (made_of (defaults a.1.1.1.0))) n (lists_of a) (lists_of e) h.0 z h.1 ∙ same)) (runs c)
@@ -82,7 +82,7 @@ runs {s} (refused-with {ys} {i} c κs a n e h same z) =
 is_run : (s : Settings) (ys : List Shown) (i : TrackerImage) → Calls s ys i → IsRun s ys i
 is_run s ys i c =
     let d : Runs s ys i = runs c in
-    record { events = d.events; alike = d.alike; run = d.run; holds = every-run.holds s d.events (decode_tracker i) d.run; means = d.stands.means; image = d.stands.image }
+    record { events = d.events; alike = d.alike; run = d.run; holds = every-run.holds s d.events (thaw_tracker i) d.run; means = d.stands.means; image = d.stands.image }
 
 -- ---- such lists exist
 
@@ -98,7 +98,7 @@ module _ (s : Settings) where
     use_byte = flag_of s.use_byte;
   }
 
-  passed-back : decode_settings passed ≡ s
+  passed-back : thaw_settings passed ≡ s
   passed-back = λ j. record {
     det_thresh = s.det_thresh;
     iou_threshold = s.iou_threshold;
@@ -115,7 +115,7 @@ module _ (s : Settings) where
 
   -- lists of the right lengths, and what the making call leaves of them
   abbrev at-hand : TrackerImage
-  at-hand = encode_tracker (empty_tracker s)
+  at-hand = freeze_tracker (empty_tracker s)
 
   abbrev made : TrackerImage
   made = begun at-hand (fresh_with passed)

@@ -38,7 +38,7 @@ use Rattle.frame.proofs.Promises.{refused-reports}
 use Rattle.frame.proofs.Rising.{with_born, given}
 use Rattle.frame.proofs.StaysSound.{left-few}
 use Rattle.image.specs.declared.TrackerImage.{TrackerImage}
-use Rattle.image.specs.Image.{filter_floats, box_floats, list_floats, direction_floats, kept_tag, kept_floats, Cell, encode_track, decode_track, cells, count_in, decode_tracker, Faithful}
+use Rattle.image.specs.Image.{filter_floats, box_floats, list_floats, direction_floats, kept_tag, kept_floats, Cell, freeze_track, thaw_track, cells, count_in, thaw_tracker, Faithful}
 use Rattle.to_image.proofs.Putting.{box-long, list-long, direction-long, boxes-long}
 use Rattle.to_image.proofs.Filling.{Full, all_weaker, all_replicate}
 use Rattle.to_image.proofs.Back.{Shaped, faithful}
@@ -92,8 +92,8 @@ blank-shaped : Shaped blank
 unfolding blank
 blank-shaped = record { x = none-long.0; p = none-long.1; xs = none-long.0; ps = none-long.1; kept = refl }
 
-decoded-shaped : (c : Cell) → Shaped (decode_track c)
-unfolding decode_track
+decoded-shaped : (c : Cell) → Shaped (thaw_track c)
+unfolding thaw_track
 decoded-shaped c = record { x = refl; p = refl; xs = refl; ps = refl; kept = refl }
 
 born-shaped : (id : ℕ) (d : Detection) → Shaped (record { id = id; track = birth_of d })
@@ -115,7 +115,7 @@ given-shaped dt (some g) e h =
 
 -- its numbers fill its cell
 full-of : (e : Tracked) → Shaped e → Full e
-unfolding encode_track
+unfolding freeze_track
 full-of e h =
     let t : Track = e.track in
     let d : List Float = direction_floats t.direction ++ flat kept_floats t.kept in
@@ -163,14 +163,14 @@ pub empty-faithful : (s : Settings) → Faithful (empty_tracker s)
 unfolding empty_tracker
 empty-faithful s = state-faithful s 0 0 [] (omega arith) tt
 
-decoded-all : (cs : List Cell) → All Shaped (map decode_track cs)
+decoded-all : (cs : List Cell) → All Shaped (map thaw_track cs)
 decoded-all [] = tt
 decoded-all (c ∷ cs) = (decoded-shaped c, decoded-all cs)
 
 -- lists stand for a state whose lists are as long as their types say
-pub live-shaped : (i : TrackerImage) → All Shaped (live (decode_tracker i))
-unfolding decode_tracker
-live-shaped i = all_take Shaped (count_in i) (map decode_track (cells i)) (decoded-all (cells i))
+pub live-shaped : (i : TrackerImage) → All Shaped (live (thaw_tracker i))
+unfolding thaw_tracker
+live-shaped i = all_take Shaped (count_in i) (map thaw_track (cells i)) (decoded-all (cells i))
 
 -- ---- a frame
 

@@ -22,9 +22,9 @@ use Rattle.frame.specs.Contract.{told_of, number_in, made_of, outcome_of, report
 use Rattle.frame.proofs.Promises.{promised}
 use Rattle.frame.proofs.Contract.{framed-by}
 use Rattle.image.specs.declared.TrackerImage.{TrackerImage}
-use Rattle.image.specs.Image.{tagged, encode_tracker, decode_tracker, meant, Faithful}
-use Rattle.new_in_lists.specs.declared.SettingsImage.{SettingsImage}
-use Rattle.new_in_lists.specs.Making.{decode_settings, Fresh, fresh_of, fresh_with, begun}
+use Rattle.image.specs.Image.{tagged, freeze_tracker, thaw_tracker, meant, Faithful}
+use Rattle.making.specs.declared.SettingsImage.{SettingsImage}
+use Rattle.making.specs.Making.{thaw_settings, Fresh, fresh_of, fresh_with, begun}
 use Rattle.update_in_lists.specs.declared.Reply.{Reply}
 use Rattle.update_in_lists.specs.Host.{image_after, frame_by, frame_on, Hosted}
 use Rattle.exported_run.proofs.Shape.{live-shaped, next-faithful}
@@ -32,12 +32,12 @@ use Rattle.exported_run.proofs.Shape.{live-shaped, next-faithful}
 -- the lists mean something, and are the image of what they stand for
 pub record Stands (i : TrackerImage) : Type 0 where
   pub means : meant i ≡ true
-  pub image : i ≡ encode_tracker (decode_tracker i)
+  pub image : i ≡ freeze_tracker (thaw_tracker i)
 
-pub stands-for : (i : TrackerImage) (t : Tracker) → Faithful t → i ≡ encode_tracker t → (decode_tracker i ≡ t) × Stands i
+pub stands-for : (i : TrackerImage) (t : Tracker) → Faithful t → i ≡ freeze_tracker t → (thaw_tracker i ≡ t) × Stands i
 stands-for i t f e =
-    let back : decode_tracker i ≡ t = ap decode_tracker e ∙ f.back in
-    (back, record { means = ap meant e ∙ f.means; image = e ∙ ap encode_tracker (sym back) })
+    let back : thaw_tracker i ≡ t = ap thaw_tracker e ∙ f.back in
+    (back, record { means = ap meant e ∙ f.means; image = e ∙ ap freeze_tracker (sym back) })
 
 -- ---- making
 
@@ -51,17 +51,17 @@ tag-fine false k e = absurd (omega (arith, e))
 
 -- told 0, the settings were in range, and the lists hold the empty tracker
 abbrev pub Begun : Settings → TrackerImage → Type 0
-Begun q i = (in_range q ≡ true) × (i ≡ encode_tracker (empty_tracker q))
+Begun q i = (in_range q ≡ true) × (i ≡ freeze_tracker (empty_tracker q))
 
 pub new-begins : (q : Settings) (i i' : TrackerImage) → 0 ≡ (fresh_of (made_of q)).number → i' ≡ begun i (fresh_of (made_of q)) → Begun q i'
 unfolding fresh_of made_of
-new-begins q i i' z e = (told-fine (in_range q) z, e ∙ ap (λ (k : ℕ). pick (eqb k 0) (encode_tracker (empty_tracker q)) i) (sym z))
+new-begins q i i' z e = (told-fine (in_range q) z, e ∙ ap (λ (k : ℕ). pick (eqb k 0) (freeze_tracker (empty_tracker q)) i) (sym z))
 
-pub with-begins : (q : SettingsImage) (i i' : TrackerImage) → 0 ≡ (fresh_with q).number → i' ≡ begun i (fresh_with q) → Begun (decode_settings q) i'
+pub with-begins : (q : SettingsImage) (i i' : TrackerImage) → 0 ≡ (fresh_with q).number → i' ≡ begun i (fresh_with q) → Begun (thaw_settings q) i'
 unfolding fresh_with fresh_of made_of
 with-begins q i i' z e = (
-  told-fine (in_range (decode_settings q)) (tag-fine (tagged q.use_byte) (told_of (pick (in_range (decode_settings q)) Accepted (Refused BadSetting))) z),
-  e ∙ ap (λ (k : ℕ). pick (eqb k 0) (encode_tracker (empty_tracker (decode_settings q))) i) (sym z),
+  told-fine (in_range (thaw_settings q)) (tag-fine (tagged q.use_byte) (told_of (pick (in_range (thaw_settings q)) Accepted (Refused BadSetting))) z),
+  e ∙ ap (λ (k : ℕ). pick (eqb k 0) (freeze_tracker (empty_tracker (thaw_settings q))) i) (sym z),
 )
 
 -- told another number, the lists are as they were
@@ -75,7 +75,7 @@ module _ (i : TrackerImage) (st : Stands i) (input boxes : List Float) (ids : Li
   call = call_of input boxes ids
 
   abbrev pub out : Out Tracker
-  out = frame_of (decode_tracker i) call
+  out = frame_of (thaw_tracker i) call
 
   by-frame : frame_on i call ≡ frame_by i call true
   unfolding frame_on
@@ -87,13 +87,13 @@ module _ (i : TrackerImage) (st : Stands i) (input boxes : List Float) (ids : Li
   reply-is : (frame_on i call).reply ≡ out.reply
   reply-is = ap (λ (o : Out TrackerImage). o.reply) by-frame
 
-  after : (i' : TrackerImage) (r : one-frame.Reply) → out.reply ≡ r → i' ≡ image_after i r out.next → (decode_tracker i' ≡ out.next) × Stands i'
-  after i' (refused q) e h = (ap decode_tracker h ∙ sym ((promised (decode_tracker i) call).kept q e), subst Stands (sym h) st)
-  after i' (reports rs) e h = stands-for i' out.next (next-faithful (decode_tracker i) call (live-shaped i) rs e) h
+  after : (i' : TrackerImage) (r : one-frame.Reply) → out.reply ≡ r → i' ≡ image_after i r out.next → (thaw_tracker i' ≡ out.next) × Stands i'
+  after i' (refused q) e h = (ap thaw_tracker h ∙ sym ((promised (thaw_tracker i) call).kept q e), subst Stands (sym h) st)
+  after i' (reports rs) e h = stands-for i' out.next (next-faithful (thaw_tracker i) call (live-shaped i) rs e) h
 
   module _ (i' : TrackerImage) (r : Reply) (boxes' : List Float) (ids' : List ℕ) (h : Hosted i input boxes ids i' r boxes' ids') where
     -- the lists left are the image of the state that the frame leaves
-    lists-after : (decode_tracker i' ≡ out.next) × Stands i'
+    lists-after : (thaw_tracker i' ≡ out.next) × Stands i'
     lists-after = after i' out.reply refl (h.next ∙ next-is)
 
     pub stands_after : Stands i'
@@ -101,11 +101,11 @@ module _ (i : TrackerImage) (st : Stands i) (input boxes : List Float) (ids : Li
 
     -- what a caller of the lent call would have been told
     abbrev pub answer : Answer
-    answer = record { outcome = outcome_of out.reply; count = r.count; tracker = decode_tracker i' }
+    answer = record { outcome = outcome_of out.reply; count = r.count; tracker = thaw_tracker i' }
 
-    pub framed : Framed (decode_tracker i) input boxes ids answer boxes' ids'
+    pub framed : Framed (thaw_tracker i) input boxes ids answer boxes' ids'
     framed =
-        framed-by (decode_tracker i) input boxes ids answer boxes' ids' refl
+        framed-by (thaw_tracker i) input boxes ids answer boxes' ids' refl
         (ap (λ (x : Reply). x.count) h.reply ∙ ap (λ (x : one-frame.Reply). length (reports_in x)) reply-is)
         lists-after.0
         (h.boxes-after ∙ ap (λ (x : one-frame.Reply). boxes_after x boxes) reply-is)

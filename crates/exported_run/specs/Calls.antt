@@ -3,9 +3,9 @@ use Rattle.std.specs.Prelude.{◌≡◌, true, List, [], ◌∷◌, map, ℕ, Fl
 use contract.Lifetimes.{Lfts}
 use Rattle.std.specs.Borrow.{MutBor}
 use Rattle.update_in_lists.specs.declared.Reply.{Reply}
-use Rattle.new_in_lists.specs.Making.{decode_settings}
+use Rattle.making.specs.Making.{thaw_settings}
 use Rattle.image.specs.declared.TrackerImage.{TrackerImage}
-use Rattle.image.specs.Image.{image_of, encode_tracker, decode_tracker, meant}
+use Rattle.image.specs.Image.{image_of, freeze_tracker, thaw_tracker, meant}
 use Rattle.oc_sort_tracker.specs.New.{defaults}
 use Rattle.frame.specs.declared.Settings.{Settings}
 use Rattle.frame.specs.declared.Outcome.{Outcome}
@@ -48,7 +48,7 @@ shown_of κs a r e = record {
 -- the lists that the last one left: a frame, accepted or refused, or a making call that is refused.
 pub data Calls (s : Settings) : List Shown → TrackerImage → Type 0 where
   made_new : (κs : Lfts 3) (a : new.Dens κs) (n : ℕ) (e : new.Exit κs) → new.Learnt κs a n e → n ≡ 0 → defaults a.1.1.1.0 ≡ s → Calls s [] (lists_of e)
-  made_with : (κs : Lfts 3) (a : with_settings.Dens κs) (n : ℕ) (e : with_settings.Exit κs) → with_settings.Learnt κs a n e → n ≡ 0 → decode_settings a.1.1.1.0 ≡ s → Calls s [] (lists_of e)
+  made_with : (κs : Lfts 3) (a : with_settings.Dens κs) (n : ℕ) (e : with_settings.Exit κs) → with_settings.Learnt κs a n e → n ≡ 0 → thaw_settings a.1.1.1.0 ≡ s → Calls s [] (lists_of e)
   called : {ys : List Shown} {i : TrackerImage} → Calls s ys i → (κs : Lfts 6) (a : update.Dens κs) (r : Reply) (e : update.Exit κs) → update.Learnt κs a r e → lists_of a ≡ i → Calls s (shown_of κs a r e ∷ ys) (lists_of e)
   refused_new : {ys : List Shown} {i : TrackerImage} → Calls s ys i → (κs : Lfts 3) (a : new.Dens κs) (n : ℕ) (e : new.Exit κs) → new.Learnt κs a n e → lists_of a ≡ i → (n ≡ 0 → ⊥) → Calls s ys (lists_of e)
   refused-with : {ys : List Shown} {i : TrackerImage} → Calls s ys i → (κs : Lfts 3) (a : with_settings.Dens κs) (n : ℕ) (e : with_settings.Exit κs) → with_settings.Learnt κs a n e → lists_of a ≡ i → (n ≡ 0 → ⊥) → Calls s ys (lists_of e)
@@ -62,7 +62,7 @@ seen_as o y = record {
   input = y.input;
   boxes = y.boxes;
   ids = y.ids;
-  answer = record { outcome = o; count = y.reply.count; tracker = decode_tracker y.lists_left };
+  answer = record { outcome = o; count = y.reply.count; tracker = thaw_tracker y.lists_left };
   boxes_left = y.boxes_left;
   ids_left = y.ids_left;
 }
@@ -79,12 +79,12 @@ pub record IsRun (s : Settings) (ys : List Shown) (i : TrackerImage) : Type 0 wh
   -- they are the calls of a run, and the lists stand for its tracker
   pub events : List Event
   pub alike : Alike ys events
-  pub run : Run s events (decode_tracker i)
+  pub run : Run s events (thaw_tracker i)
   -- so demand 3 holds: of the numbers, the counts and the buffers, and of the state that the lists stand for, after each call and now
-  pub holds : Holds s events (decode_tracker i) (book_of s events)
+  pub holds : Holds s events (thaw_tracker i) (book_of s events)
   -- the lists mean something, and hold that state's image and nothing else
   pub means : meant i ≡ true
-  pub image : i ≡ encode_tracker (decode_tracker i)
+  pub image : i ≡ freeze_tracker (thaw_tracker i)
 
 -- what a caller brings to a frame
 pub record Brought : Type 0 where

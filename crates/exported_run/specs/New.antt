@@ -1,4 +1,4 @@
--- What a caller learns of `satinjacks::satinjacks_new_lists`: its own `ensures`, read off as the prover reads it. Definitions only.
+-- What a caller learns of `host::satinjacks_new_lists`: its own `ensures`, read off as the prover reads it. Definitions only.
 use Rattle.std.specs.Prelude.{refl, ℕ}
 use base.Logic.{emp}
 use contract.Lifetimes.{Lfts}
@@ -6,7 +6,7 @@ use denote.Triple.Clauses.{AtExit}
 use borrow.Fn.Claims.{AllOf}
 use borrow.Fn.World.{World, Pr, ArgsD}
 use borrow.Fn.Read.{Read, r_last, no_know, all_models}
-use Rattle.satinjacks.specs.contracts.satinjacks_new_lists as call
+use Rattle.host.specs.contracts.satinjacks_new_lists as call
 
 -- what goes in, and the arguments as the call leaves them
 abbrev pub Dens : Lfts 3 → Type 0

@@ -18,14 +18,14 @@ use Rattle.frame.specs.Rounds.{View}
 use Rattle.frame.specs.Frame.{tracked_view, predict_tracked, unbroken, predicted_tracks}
 use Rattle.frame.proofs.Rules.{ranges}
 use Rattle.rules.specs.Rules.{sound_at}
-use Rattle.detections.specs.Cells.{padded}
-use Rattle.detections.specs.Dets.{five_of}
-use Rattle.detections.proofs.Cells.{flat-length, flat-push, padded-length}
+use Rattle.objects.specs.Cells.{padded}
+use Rattle.objects.specs.Dets.{five_of}
+use Rattle.objects.proofs.Cells.{flat-length, flat-push, padded-length}
 use Rattle.views.specs.declared.Views.{Views}
 use Rattle.views.specs.Views.{two_of, views_of}
 use Rattle.tracks.proofs.Table as table
 use Rattle.image.specs.declared.TrackerImage.{TrackerImage}
-use Rattle.image.specs.Image.{Cell, decode_track, decode_tracker, meant_track, meant, cell_at, cells, issued_in, count_in, frames_in}
+use Rattle.image.specs.Image.{Cell, thaw_track, thaw_tracker, meant_track, meant, cell_at, cells, issued_in, count_in, frames_in}
 use Rattle.frame_in_lists.specs.declared.Ahead.{Ahead}
 use Rattle.frame_in_lists.specs.InPlace.{settings_in, usable_totals, AheadOf}
 use Rattle.frame_in_lists.proofs.Parts.{bounds}
@@ -94,13 +94,13 @@ module _ (n : ℕ) (vs : List View) (vb vd vl vp : List Float) (e : views_by n v
 
 -- the tracks that the image stands for, the first u of them predicted, and all that are live
 abbrev pub table_in : TrackerImage → List Tracked
-table_in i = map decode_track (cells i)
+table_in i = map thaw_track (cells i)
 
 abbrev pub ahead_to : TrackerImage → ℕ → List Tracked
 ahead_to i u = predicted_tracks (take u (table_in i))
 
 abbrev pub ahead_in : TrackerImage → List Tracked
-ahead_in i = predicted_tracks (live (decode_tracker i))
+ahead_in i = predicted_tracks (live (thaw_tracker i))
 
 pub record Looked (i : TrackerImage) (s : Settings) (w : List Tracked) (vb vd vl vp : List Float) (from ahead u : ℕ) : Type 0 where
   pub same : s ≡ settings_in i
@@ -151,10 +151,10 @@ module _ {i : TrackerImage} {s : Settings} {w : List Tracked} {vb vd vl vp : Lis
     that : get_or (cells i) u d ≡ cell_at i u
     that = get_or-tab (cell_at i) 64 d u in_table
 
-    said : (b : Bool) → a.usable ≡ b → (meant_track (get_or (cells i) u d) && sound_at (settings_in i) (frames_in i) (issued_in i) from (decode_track (get_or (cells i) u d))) ≡ b
-    said b t = ap (λ (c : Cell). meant_track c && sound_at (settings_in i) (frames_in i) (issued_in i) from (decode_track c)) that ∙ sym is.tested ∙ t
+    said : (b : Bool) → a.usable ≡ b → (meant_track (get_or (cells i) u d) && sound_at (settings_in i) (frames_in i) (issued_in i) from (thaw_track (get_or (cells i) u d))) ≡ b
+    said b t = ap (λ (c : Cell). meant_track c && sound_at (settings_in i) (frames_in i) (issued_in i) from (thaw_track c)) that ∙ sym is.tested ∙ t
 
-    pub looked-failed : a.usable ≡ false → (meant i && state_rules (decode_tracker i)) ≡ false
+    pub looked-failed : a.usable ≡ false → (meant i && state_rules (thaw_tracker i)) ≡ false
     looked-failed t = bad-tracks i (h.rest ∙ usable-failed (settings_in i) (frames_in i) (issued_in i) (cells i) (count_in i) from u d short below (said false t))
 
     module _ (t : a.usable ≡ true) where
@@ -162,14 +162,14 @@ module _ {i : TrackerImage} {s : Settings} {w : List Tracked} {vb vd vl vp : Lis
       next-rest =
           h.rest
           ∙ usable-passed (settings_in i) (frames_in i) (issued_in i) (cells i) (count_in i) from u d short below (said true t)
-          ∙ ap (λ (n : ℕ). usable (settings_in i) (frames_in i) (issued_in i) (cells i) (count_in i) n (u + 1)) (ap (λ (c : Cell). (decode_track c).id + 1) that ∙ sym (is.follows t))
+          ∙ ap (λ (n : ℕ). usable (settings_in i) (frames_in i) (issued_in i) (cells i) (count_in i) n (u + 1)) (ap (λ (c : Cell). (thaw_track c).id + 1) that ∙ sym (is.follows t))
 
       one_more : (b : Bool) → a.unbroken ≡ b → ahead_to i (u + 1) ≡ ahead_to i u ++ put b a.tracked []
       unfolding predicted_tracks
       one_more b q =
-          let p : predict_tracked (get_or (table_in i) u (decode_track d)) ≡ a.tracked = ap predict_tracked (get_or-map decode_track (cells i) u d ∙ ap decode_track that) ∙ sym (is.predicted t) in
+          let p : predict_tracked (get_or (table_in i) u (thaw_track d)) ≡ a.tracked = ap predict_tracked (get_or-map thaw_track (cells i) u d ∙ ap thaw_track that) ∙ sym (is.predicted t) in
           let r : unbroken a.tracked ≡ b = ap unbroken (is.predicted t) ∙ sym (is.whole t) ∙ q in
-          table.one_more unbroken predict_tracked (table_in i) u (decode_track d) (omega (arith, in_table, length-map (cells i) decode_track, length-tab (cell_at i) 64))
+          table.one_more unbroken predict_tracked (table_in i) u (thaw_track d) (omega (arith, in_table, length-map (cells i) thaw_track, length-tab (cell_at i) 64))
           ∙ ap (λ (x : Tracked). table.passed unbroken predict_tracked (table_in i) u ++ put (unbroken x) x []) p
           ∙ ap (λ (x : Bool). table.passed unbroken predict_tracked (table_in i) u ++ put x a.tracked []) r
 
@@ -207,13 +207,13 @@ module _ {i : TrackerImage} {s : Settings} {w : List Tracked} {vb vd vl vp : Lis
     all : u ≡ count_in i
     all = omega (arith, l, h.reached)
 
-    pub looked-fine : (meant i && state_rules (decode_tracker i)) ≡ true
+    pub looked-fine : (meant i && state_rules (thaw_tracker i)) ≡ true
     looked-fine =
         all-usable i h.fit
         (h.rest ∙ ap (usable (settings_in i) (frames_in i) (issued_in i) (cells i) (count_in i) from) all ∙ usable-all (settings_in i) (frames_in i) (issued_in i) (cells i) (count_in i) from short)
 
     ahead-is : ahead_to i u ≡ ahead_in i
-    unfolding decode_tracker
+    unfolding thaw_tracker
     ahead-is = ap (ahead_to i) all
 
     pub looked-holds : Holds (ahead_in i) ahead w

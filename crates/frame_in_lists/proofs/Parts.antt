@@ -19,14 +19,14 @@ use Rattle.rules.specs.Rules.{total_rules, sound_at}
 use Rattle.rules.proofs.Sound.{id_below}
 use Rattle.reports.specs.Written.{rect_at}
 use Rattle.image.specs.declared.TrackerImage.{TrackerImage}
-use Rattle.image.specs.Image.{tagged, is_set, decode_tracker, meant_track, cell_at, issued_in, count_in, byte_in, frames_in, Whole, Cleared}
+use Rattle.image.specs.Image.{tagged, is_set, thaw_tracker, meant_track, cell_at, issued_in, count_in, byte_in, frames_in, Whole, Cleared}
 use Rattle.frame_in_lists.specs.InPlace.{settings_in, usable_totals, track_in, usable_at, AheadOf, ToldOf, with_totals, Closed}
 
 -- ---- before the loops
 
 pub same-settings : (i : TrackerImage) (s : Settings) (b : Bool)
     → s ≡ record { det_thresh = get_or i.floats 0 nan; iou_threshold = get_or i.floats 1 nan; inertia = get_or i.floats 2 nan; max_age = get_or i.words 0 0; min_hits = get_or i.words 1 0; delta_t = get_or i.words 2 0; use_byte = b } → b ≡ is_set (byte_in i) → s ≡ settings_in i
-unfolding decode_tracker
+unfolding thaw_tracker
 same-settings i s b p e = p ∙ (λ k. record { det_thresh = get_or i.floats 0 nan; iou_threshold = get_or i.floats 1 nan; inertia = get_or i.floats 2 nan; max_age = get_or i.words 0 0; min_hits = get_or i.words 1 0; delta_t = get_or i.words 2 0; use_byte = e k })
 
 module _ (i : TrackerImage) (t : Bool) (is : t ≡ tagged (byte_in i)) where

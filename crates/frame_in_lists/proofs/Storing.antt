@@ -11,7 +11,7 @@ use Rattle.lists.specs.Lists.{flat, All}
 use Rattle.frame.specs.declared.Tracked.{Tracked}
 use Rattle.frame.specs.State.{blank, state_of}
 use Rattle.image.specs.declared.TrackerImage.{TrackerImage}
-use Rattle.image.specs.Image.{tagged, id_of, floats_of, words_of, image_of, byte_in, encode_tracker, Put}
+use Rattle.image.specs.Image.{tagged, id_of, floats_of, words_of, image_of, byte_in, freeze_tracker, Put}
 use Rattle.to_image.proofs.Filling.{Full, filled_to, filled-clear, encoded}
 use Rattle.frame_in_lists.specs.InPlace.{settings_in, with_totals, Closed}
 
@@ -50,7 +50,7 @@ stored-turn i i₁ i₂ es e k m n h p =
 
 -- all of them, zeros past them and the new totals: the image of the state of these tracks
 pub stored-done : (i i₁ i₂ : TrackerImage) (es : List Tracked) (issued live frames : ℕ) → i₁ ≡ stored_from i 0 es → All Full es → live ≡ length es → live ≤ 64 → tagged (byte_in i) ≡ true → Closed issued live frames i₁ i₂
-    → i₂ ≡ encode_tracker (state_of (settings_in i) frames issued es)
+    → i₂ ≡ freeze_tracker (state_of (settings_in i) frames issued es)
 stored-done i i₁ i₂ es issued live frames h f n b t c =
     let x : c.zeroed ≡ filled_to i (es ++ replicate (64 - live) blank) = filled-clear i i₁ c.zeroed es live h f (sym n) b c.cleared in
     let y : c.zeroed ≡ filled_to i (es ++ replicate (64 - length es) blank) = x ∙ ap (λ (k : ℕ). filled_to i (es ++ replicate (64 - k) blank)) n in

@@ -7,13 +7,13 @@ use Rattle.frame.specs.Frame.{predict_tracked, unbroken, is_reported, report_of}
 use Rattle.rules.specs.Rules.{total_rules, sound_at}
 use Rattle.reports.specs.Written.{rect_at}
 use Rattle.image.specs.declared.TrackerImage.{TrackerImage}
-use Rattle.image.specs.Image.{tagged, decode_track, meant_track, image_of, cell_at, issued_in, count_in, byte_in, frames_in, decode_tracker, Whole, Cleared}
+use Rattle.image.specs.Image.{tagged, thaw_track, meant_track, image_of, cell_at, issued_in, count_in, byte_in, frames_in, thaw_tracker, Whole, Cleared}
 use Rattle.frame_in_lists.specs.declared.Ahead.{Ahead}
 
 -- ---- before the loops
 
 abbrev pub settings_in : TrackerImage → Settings
-settings_in i = (decode_tracker i).settings
+settings_in i = (thaw_tracker i).settings
 
 -- the settings of every image with these floats and words
 abbrev pub SettingsIn : List Float → List ℕ → Settings → Type 0
@@ -26,7 +26,7 @@ usable_totals i = tagged (byte_in i) && total_rules (settings_in i) (frames_in i
 -- ---- up to the rounds
 
 abbrev pub track_in : TrackerImage → ℕ → Tracked
-track_in i k = decode_track (cell_at i k)
+track_in i k = thaw_track (cell_at i k)
 
 -- the tags of track k mean something, and it obeys the state rules, with an id from `from` on
 abbrev pub usable_at : TrackerImage → ℕ → ℕ → Bool

@@ -14,7 +14,7 @@ use Rattle.strack.specs.declared.LastBox.{LastBox}
 use Rattle.strack.specs.declared.ListBox.{ListBox}
 use Rattle.strack.specs.declared.Direction.{Direction}
 use Rattle.strack.specs.declared.Kept.{Kept}
-use Rattle.image.specs.Image.{is_set, filter_at, box_at, list_at, direction_at, kept_at, part, decode_track, image_of, cell_at}
+use Rattle.image.specs.Image.{is_set, filter_at, box_at, list_at, direction_at, kept_at, part, thaw_track, image_of, cell_at}
 use Rattle.image.proofs.Parts.{get_d_part, tab-of-part}
 
 -- ---- a list filled from the front, all of it
@@ -51,8 +51,8 @@ pub track-read : (wide : List ℕ) (fs : List Float) (ws : List ℕ) (k : ℕ) {
     → filter ≡ filter_at fs (3 + 163 * k) → saved ≡ filter_at fs (3 + 163 * k + 56) → frozen ≡ is_set (get_or ws (5 + 15 * k) 0)
     → last ≡ box_at (get_or ws (5 + 15 * k + 4) 0) fs (3 + 163 * k + 112) → list ≡ list_at (get_or ws (5 + 15 * k + 5) 0) fs (3 + 163 * k + 117)
     → direction ≡ direction_at (get_or ws (5 + 15 * k + 6) 0) fs (3 + 163 * k + 121) → kept ≡ kept_at ws (5 + 15 * k + 7) fs (3 + 163 * k + 123)
-    → record { id = get_or wide (2 + k) 0; track = record { filter = filter; saved = saved; frozen = frozen; age = get_or ws (5 + 15 * k + 1) 0; streak = get_or ws (5 + 15 * k + 2) 0; since = get_or ws (5 + 15 * k + 3) 0; last = last; list = list; direction = direction; kept = kept } } ≡ decode_track (cell_at (image_of wide fs ws) k)
-unfolding decode_track cell_at
+    → record { id = get_or wide (2 + k) 0; track = record { filter = filter; saved = saved; frozen = frozen; age = get_or ws (5 + 15 * k + 1) 0; streak = get_or ws (5 + 15 * k + 2) 0; since = get_or ws (5 + 15 * k + 3) 0; last = last; list = list; direction = direction; kept = kept } } ≡ thaw_track (cell_at (image_of wide fs ws) k)
+unfolding thaw_track cell_at
 track-read wide fs ws k p-filter p-saved p-frozen p-last p-list p-direction p-kept =
     let f : ℕ = 3 + 163 * k in
     let w : ℕ = 5 + 15 * k in

@@ -1,8 +1,8 @@
-// The state that an image stands for. Its lists are lent and each track is read alone, so no call but `decode` copies the whole.
+// The state that an image stands for. Its lists are lent and each track is read alone, so no call but `thaw` copies the whole.
 #![tactic(auto)]
 
 ghost use Rattle.std.specs.Prelude.{◌≡◌, ◌+◌, ◌≤◌, ◌<◌};
-ghost use Rattle.image.specs.Image.{filter_at, box_at, list_at, direction_at, kept_at, decode_track, image_of, cell_at, decode_tracker};
+ghost use Rattle.image.specs.Image.{filter_at, box_at, list_at, direction_at, kept_at, thaw_track, image_of, cell_at, thaw_tracker};
 
 use frame::{Settings, Tracked, Tracker};
 use image::TrackerImage;
@@ -95,7 +95,7 @@ fn kept_at(floats: &[f32; 10435], words: &[u32; 965], f: usize, w: usize) -> [Ke
 
 pub fn track_at(wide: &[u64; 66], floats: &[f32; 10435], words: &[u32; 965], k: usize) -> Tracked
     requires { k < 64 }
-    ensures { result ≡ decode_track (cell_at (image_of wide.now floats.now words.now) k) }
+    ensures { result ≡ thaw_track (cell_at (image_of wide.now floats.now words.now) k) }
 {
     let f = 3 + 163 * k;
     let w = 5 + 15 * k;
@@ -120,8 +120,8 @@ pub fn track_at(wide: &[u64; 66], floats: &[f32; 10435], words: &[u32; 965], k: 
 // ---- the tracker
 
 // The state that an image stands for.
-pub fn decode(i: TrackerImage) -> Tracker
-    ensures { result ≡ decode_tracker i }
+pub fn thaw(i: TrackerImage) -> Tracker
+    ensures { result ≡ thaw_tracker i }
 {
     let wide = i.wide;
     let floats = i.floats;

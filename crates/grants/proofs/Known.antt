@@ -4,8 +4,8 @@ use mathlib.Core.List.{List}
 use lib.ListN.{length}
 use mir.Val.{Val}
 use denote.Laws.{Is}
-use Rattle.detections.specs.declared.Dets.{Dets}
-use Rattle.detections.specs.contracts.Dets as De
+use Rattle.objects.specs.declared.Dets.{Dets}
+use Rattle.objects.specs.contracts.Dets as De
 use Rattle.grants.specs.declared.Places.{Places}
 use Rattle.grants.specs.contracts.Places as Pl
 

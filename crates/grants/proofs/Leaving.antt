@@ -16,10 +16,10 @@ use Rattle.lapjv_walk.specs.Marks.{is_free, mark_at}
 use Rattle.matching.specs.Associate.{det_at}
 use Rattle.frame.specs.Objects.{Obj}
 use Rattle.frame.specs.Rounds.{no_obj, unless_taken, left_by, place_of}
-use Rattle.detections.specs.declared.Dets.{Dets}
-use Rattle.detections.specs.Dets.{dets_of, pushed}
-use Rattle.detections.proofs.Pushing.{push-one}
-use Rattle.detections.proofs.Reading.{det-at}
+use Rattle.objects.specs.declared.Dets.{Dets}
+use Rattle.objects.specs.Dets.{dets_of, pushed}
+use Rattle.objects.proofs.Pushing.{push-one}
+use Rattle.objects.proofs.Reading.{det-at}
 
 left-snoc : (ms : List ℤ) (os : List Obj) (m : ℤ) (o : Obj) → length ms ≡ length os → left_by (ms ++ (m ∷ [])) (os ++ (o ∷ [])) ≡ left_by ms os ++ unless_taken m o []
 left-snoc [] [] m o h = refl

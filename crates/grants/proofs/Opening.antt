@@ -18,10 +18,10 @@ use Rattle.object.specs.declared.Corners.{Corners}
 use Rattle.strack.specs.declared.Kept.{Kept}
 use Rattle.matching.specs.Associate.{corners_at, four_of}
 use Rattle.frame.specs.Rounds.{Grant, Slot, no_slot, slot_at, no_corners, unless_granted, open_from, kept_of, grant_of}
-use Rattle.detections.proofs.Cells.{get_or-padding, sets-padding, flat-push, flat-length, padded-length}
+use Rattle.objects.proofs.Cells.{get_or-padding, sets-padding, flat-push, flat-length, padded-length}
 use Rattle.grants.specs.declared.Places.{Places}
 use Rattle.grants.specs.Grants.{grants_of, is_open, open_in, places_of, pushed_place, boxes_of}
-use Rattle.detections.proofs.Reading.{four-at}
+use Rattle.objects.proofs.Reading.{four-at}
 
 -- ---- the loop over the grants
 

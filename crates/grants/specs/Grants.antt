@@ -8,9 +8,9 @@ use Rattle.strack.specs.declared.Kept.{Kept}
 use Rattle.strack.specs.Track.{seen_of, is_seen}
 use Rattle.frame.specs.Objects.{Obj}
 use Rattle.frame.specs.Rounds.{Slot, left_by, kept_of, grant_of}
-use Rattle.detections.specs.declared.Dets.{Dets}
-use Rattle.detections.specs.Cells.{padded}
-use Rattle.detections.specs.Dets.{dets_of}
+use Rattle.objects.specs.declared.Dets.{Dets}
+use Rattle.objects.specs.Cells.{padded}
+use Rattle.objects.specs.Dets.{dets_of}
 use Rattle.grants.specs.declared.Places.{Places}
 use Rattle.matching.specs.Associate.{four_of}
 

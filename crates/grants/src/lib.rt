@@ -6,12 +6,12 @@ ghost use Rattle.std.proofs.Math.Option.{none};
 ghost use Rattle.lists.specs.Lists.{pick, All};
 ghost use Rattle.matching.specs.Associate.{corners_at};
 ghost use Rattle.frame.specs.Rounds.{place_of, kept_of};
-ghost use Rattle.detections.specs.Dets.{dets_in};
+ghost use Rattle.objects.specs.Dets.{dets_in};
 ghost use Rattle.grants.specs.Grants.{granted, seated, is_open, open_in, places_of, pushed_place, Names, boxes_of, LeftOf};
 
-use detections::Dets;
 use matching::put_corners;
 use object::Detection;
+use objects::Dets;
 use strack::{Kept, LastBox};
 
 // The places of n slots. Cells past them are 0.
@@ -86,7 +86,7 @@ pub fn gather(boxes: [f32; 256], places: Places) -> [f32; 256]
 {
     let n = places.n;
     let at = places.at;
-    let mut out = [detections::nan(); 256];
+    let mut out = [objects::nan(); 256];
     let mut i = 0;
     while i < n {
         put_corners(&mut out, i, matching::corners_at(&boxes, at[i]));
@@ -139,10 +139,10 @@ pub fn left(marks: [i64; 64], dets: Dets) -> Dets
 {
     let n = dets.n;
     let cells = dets.cells;
-    let mut out = detections::none();
+    let mut out = objects::none();
     let mut i = 0;
     while i < n {
-        out = detections::push_if(
+        out = objects::push_if(
             out,
             lapjv_walk::is_free(marks[i]),
             matching::detection_at(&cells, i),

@@ -1,4 +1,4 @@
-// The exported symbols of what C and Rust link, libhost.a: each calls the function of crate `satinjacks` of its name, under the same contract.
+// What C and Rust link, behind the symbols of crate `host`: the tracker's calls over the image of a state, which the caller holds in three lists of numbers.
 #![tactic(auto)]
 
 ghost use Rattle.std.specs.Prelude.{◌≡◌};
@@ -7,21 +7,19 @@ ghost use Rattle.frame.specs.Contract.{made_of};
 ghost use Rattle.lapjv.specs.Answer.{Answer, number_of};
 ghost use Rattle.lapint.specs.Answer.{WholeAnswer};
 ghost use Rattle.oc_sort_tracker.specs.New.{defaults};
-ghost use Rattle.new_in_lists.specs.Making.{fresh_of, fresh_with, begun};
+ghost use Rattle.making.specs.Making.{fresh_of, fresh_with, begun};
 ghost use Rattle.shortcut_counts.specs.Counted.{Counted};
 ghost use Rattle.update_in_lists.specs.Host.{Hosted};
 
 use lapjv::Assigned;
-use new_in_lists::SettingsImage;
-use satinjacks::AssignReply;
+use making::SettingsImage;
 use shortcut_counts::Tally;
 use update_in_lists::Reply;
 
 // ---- a frame
 
 // One frame, in place: a refusal leaves lists and buffers as they were.
-#[unsafe(no_mangle)]
-pub extern "C" fn satinjacks_update_lists(
+pub fn satinjacks_update_lists(
     wide: &mut [u64; 66],
     floats: &mut [f32; 10435],
     words: &mut [u32; 965],
@@ -31,14 +29,13 @@ pub extern "C" fn satinjacks_update_lists(
 ) -> Reply
     ensures { Hosted (image_of wide.old floats.old words.old) input.now boxes.old ids.old (image_of wide.new floats.new words.new) result boxes.new ids.new }
 {
-    satinjacks::satinjacks_update_lists(wide, floats, words, input, boxes, ids)
+    update_in_lists::update(wide, floats, words, input, boxes, ids)
 }
 
 // ---- making a tracker
 
 // A tracker with all seven settings, in place: 0, or 2 and the lists as they were.
-#[unsafe(no_mangle)]
-pub extern "C" fn satinjacks_with_settings_lists(
+pub fn satinjacks_with_settings_lists(
     wide: &mut [u64; 66],
     floats: &mut [f32; 10435],
     words: &mut [u32; 965],
@@ -46,12 +43,11 @@ pub extern "C" fn satinjacks_with_settings_lists(
 ) -> u64
     ensures { (result ≡ (fresh_with settings).number) × (image_of wide.new floats.new words.new ≡ begun (image_of wide.old floats.old words.old) (fresh_with settings)) }
 {
-    satinjacks::satinjacks_with_settings_lists(wide, floats, words, settings)
+    making::with_settings(wide, floats, words, settings)
 }
 
 // A tracker with the Rust's defaults, in place: 0, or 2 and the lists as they were.
-#[unsafe(no_mangle)]
-pub extern "C" fn satinjacks_new_lists(
+pub fn satinjacks_new_lists(
     wide: &mut [u64; 66],
     floats: &mut [f32; 10435],
     words: &mut [u32; 965],
@@ -59,43 +55,43 @@ pub extern "C" fn satinjacks_new_lists(
 ) -> u64
     ensures { (result ≡ (fresh_of (made_of (defaults det_thresh))).number) × (image_of wide.new floats.new words.new ≡ begun (image_of wide.old floats.old words.old) (fresh_of (made_of (defaults det_thresh)))) }
 {
-    satinjacks::satinjacks_new_lists(wide, floats, words, det_thresh)
+    making::new(wide, floats, words, det_thresh)
 }
 
 // ---- the assignment
 
+// The refusal's number, or 0, and how many cost entries were read (document 02, 2.12).
+#[repr(C)]
+#[derive(Clone, Copy)]
+pub struct AssignReply {
+    pub number: u64,
+    pub reads: usize,
+}
+
 // Pairs n rows and n columns by their costs, given row after row.
-#[unsafe(no_mangle)]
-pub extern "C" fn satinjacks_assign(
-    n: usize,
-    cost: &[f64],
-    x: &mut [i64],
-    y: &mut [i64],
-) -> AssignReply
+pub fn satinjacks_assign(n: usize, cost: &[f64], x: &mut [i64], y: &mut [i64]) -> AssignReply
     ensures { (a : Assigned) × ((result.number ≡ number_of a) × Answer n cost.now x.old y.old a result.reads x.new y.new) }
 {
-    satinjacks::satinjacks_assign(n, cost, x, y)
+    let solved = lapjv::lapjv(n, cost, x, y);
+    let answer = solved.answer;
+    AssignReply {
+        number: lapjv::told(answer),
+        reads: solved.reads,
+    }
 }
 
 // Pairs them by whole costs, at the least total (document 02, 2.3).
-#[unsafe(no_mangle)]
-pub extern "C" fn satinjacks_assign_whole(
-    n: usize,
-    cost: &[i64],
-    x: &mut [i64],
-    y: &mut [i64],
-) -> u64
+pub fn satinjacks_assign_whole(n: usize, cost: &[i64], x: &mut [i64], y: &mut [i64]) -> u64
     ensures { (a : Assigned) × ((result ≡ number_of a) × WholeAnswer n cost.now x.old y.old a x.new y.new) }
 {
-    satinjacks::satinjacks_assign_whole(n, cost, x, y)
+    lapjv::told(lapint::lapint(n, cost, x, y))
 }
 
 // ---- how often the shortcut runs
 
 // Of all patterns of 1 to 4 rows by 1 to 4 columns, those that take the shortcut and those that go to the assignment; 0 and 0 for any other size.
-#[unsafe(no_mangle)]
-pub extern "C" fn satinjacks_shortcuts(rows: u64, columns: u64) -> Tally
+pub fn satinjacks_shortcuts(rows: u64, columns: u64) -> Tally
     ensures { Counted rows columns result.shortcut result.assignment }
 {
-    satinjacks::satinjacks_shortcuts(rows, columns)
+    shortcut_counts::shortcuts(rows, columns)
 }

@@ -96,8 +96,8 @@ pub record Cell : Type 0 where
   pub floats : List Float
   pub words : List ℕ
 
-unfoldable pub encode_track : Tracked → Cell
-encode_track e =
+unfoldable pub freeze_track : Tracked → Cell
+freeze_track e =
     let t = e.track in
     record {
       id = e.id;
@@ -109,13 +109,13 @@ abbrev pub id_of : Tracked → ℕ
 id_of e = e.id
 
 abbrev pub floats_of : Tracked → List Float
-floats_of e = (encode_track e).floats
+floats_of e = (freeze_track e).floats
 
 abbrev pub words_of : Tracked → List ℕ
-words_of e = (encode_track e).words
+words_of e = (freeze_track e).words
 
-unfoldable pub decode_track : Cell → Tracked
-decode_track c =
+unfoldable pub thaw_track : Cell → Tracked
+thaw_track c =
     let fs = c.floats in
     let ws = c.words in
     record {
@@ -166,8 +166,8 @@ byte_in i = get_or i.words 3 0
 abbrev pub frames_in : TrackerImage → ℕ
 frames_in i = get_or i.words 4 0
 
-unfoldable pub decode_tracker : TrackerImage → Tracker
-decode_tracker i =
+unfoldable pub thaw_tracker : TrackerImage → Tracker
+thaw_tracker i =
     let fs = i.floats in
     let ws = i.words in
     record {
@@ -183,11 +183,11 @@ decode_tracker i =
       frames = frames_in i;
       issued = issued_in i;
       count = count_in i;
-      table = map decode_track (cells i);
+      table = map thaw_track (cells i);
     }
 
-unfoldable pub encode_tracker : Tracker → TrackerImage
-encode_tracker t =
+unfoldable pub freeze_tracker : Tracker → TrackerImage
+freeze_tracker t =
     let s = t.settings in
     record {
       wide = t.issued ∷ t.count ∷ map id_of t.table;
@@ -224,5 +224,5 @@ pub record Cleared (k : ℕ) (i i' : TrackerImage) : Type 0 where
 
 -- converted there and back a state is itself, and its image means something
 pub record Faithful (t : Tracker) : Type 0 where
-  pub back : decode_tracker (encode_tracker t) ≡ t
-  pub means : meant (encode_tracker t) ≡ true
+  pub back : thaw_tracker (freeze_tracker t) ≡ t
+  pub means : meant (freeze_tracker t) ≡ true

@@ -11,10 +11,10 @@ use borrow.Author.Tests.{lt-ltb, le-ltb}
 use Rattle.lists.specs.Lists.{every}
 use Rattle.lists.proofs.Tab.{length-tab}
 use Rattle.strack.specs.declared.Kept.{Kept}
-use Rattle.detections.specs.declared.Dets.{Dets}
-use Rattle.detections.specs.Dets.{dets_of, dets_in}
-use Rattle.detections.proofs.Pushing.{dets-count}
-use Rattle.detections.proofs.Reading.{dets-in}
+use Rattle.objects.specs.declared.Dets.{Dets}
+use Rattle.objects.specs.Dets.{dets_of, dets_in}
+use Rattle.objects.proofs.Pushing.{dets-count}
+use Rattle.objects.proofs.Reading.{dets-in}
 use Rattle.frame.specs.declared.Tracked.{Tracked}
 use Rattle.frame.specs.declared.Tracker.{Tracker}
 use Rattle.frame.specs.declared.Answer.{Answer}

@@ -4,5 +4,5 @@
 use std::io;
 
 fn main(rt: HostRuntime) -> io::Result<()> {
-    protocol_stream::run(&mut rt.stdin(), &mut rt.stdout())
+    stream::run(&mut rt.stdin(), &mut rt.stdout())
 }

@@ -24,11 +24,11 @@ use Rattle.assoc.proofs.Matching.{kept-paired, match-paired, reassociate-fair}
 use Rattle.frame.specs.declared.Settings.{Settings}
 use Rattle.frame.specs.Objects.{Obj}
 use Rattle.frame.specs.Rounds.{View, Slot, empty_slot, no_corners, slot_at, view_at, det_of, open_from, place_of, seat, left_by, first_round, later_round, kept_of, grant_of}
-use Rattle.detections.specs.declared.Dets.{Dets}
-use Rattle.detections.specs.Dets.{dets_of, dets_in}
-use Rattle.detections.proofs.Cells.{get_or-padding}
-use Rattle.detections.proofs.Pushing.{dets-count}
-use Rattle.detections.proofs.Reading.{dets-at, dets-in}
+use Rattle.objects.specs.declared.Dets.{Dets}
+use Rattle.objects.specs.Dets.{dets_of, dets_in}
+use Rattle.objects.proofs.Cells.{get_or-padding}
+use Rattle.objects.proofs.Pushing.{dets-count}
+use Rattle.objects.proofs.Reading.{dets-at, dets-in}
 use Rattle.rounds.specs.declared.Pairing.{Pairing}
 use Rattle.grants.specs.declared.Places.{Places}
 use Rattle.views.specs.declared.Views.{Views}

@@ -16,9 +16,9 @@ use Rattle.frame.specs.declared.Settings.{Settings}
 use Rattle.frame.specs.Objects.{Obj, object_at, objects_of, first_class, spares}
 use Rattle.frame.specs.Rounds.{View, Slot, Work, seat, empty_slot, no_view, no_slot, no_corners, slot_at, view_at, det_of, open_from, place_of, left_by, first_round, later_round, byte_objects, last_round, rounds}
 use Rattle.frame.proofs.Seats.{seat-views}
-use Rattle.detections.specs.declared.Dets.{Dets}
-use Rattle.detections.specs.Dets.{dets_of}
-use Rattle.detections.proofs.Pushing.{dets-count}
+use Rattle.objects.specs.declared.Dets.{Dets}
+use Rattle.objects.specs.Dets.{dets_of}
+use Rattle.objects.proofs.Pushing.{dets-count}
 use Rattle.rounds.specs.declared.Pairing.{Pairing}
 use Rattle.views.specs.declared.Views.{Views}
 use Rattle.views.specs.Views.{views_of}

@@ -6,8 +6,8 @@ use Rattle.matching.specs.Associate.{corners_at}
 use Rattle.frame.specs.declared.Settings.{Settings}
 use Rattle.frame.specs.Objects.{Obj, objects_of}
 use Rattle.frame.specs.Rounds.{View, Slot, Work, slot_at, first_round, later_round, byte_objects, spare_round}
-use Rattle.detections.specs.declared.Dets.{Dets}
-use Rattle.detections.specs.Dets.{dets_of}
+use Rattle.objects.specs.declared.Dets.{Dets}
+use Rattle.objects.specs.Dets.{dets_of}
 use Rattle.rounds.specs.declared.Pairing.{Pairing}
 use Rattle.views.specs.declared.Views.{Views}
 use Rattle.views.specs.Views.{views_of}

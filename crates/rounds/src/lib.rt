@@ -6,15 +6,15 @@ ghost use Rattle.lists.specs.Lists.{All};
 ghost use Rattle.frame.specs.Objects.{Obj, objects_of};
 ghost use Rattle.frame.specs.Rounds.{View, place_of, rounds};
 ghost use Rattle.frame.specs.Frame.{tracked_view};
-ghost use Rattle.detections.specs.Dets.{dets_of, dets_in};
+ghost use Rattle.objects.specs.Dets.{dets_of, dets_in};
 ghost use Rattle.grants.specs.Grants.{seated, Names, LeftOf};
 ghost use Rattle.views.specs.Views.{views_of};
 ghost use Rattle.rounds.specs.Pairs.{Pairs, FirstOf, LaterOf, SparesOf};
 
-use detections::Dets;
 use frame::{Settings, Tracked};
 use grants::Places;
 use matching::Marks;
+use objects::Dets;
 use strack::Kept;
 use views::Views;
 
@@ -98,7 +98,7 @@ fn spare_round(
     ensures { SparesOf s input.now boxes count grants result }
 {
     if s.use_byte {
-        let spares = detections::spare(s, input);
+        let spares = objects::spare(s, input);
         let byte = later_round(s.iou_threshold, boxes, count, spares, grants);
         return byte.grants;
     }
@@ -113,7 +113,7 @@ pub fn paired_by(s: Settings, v: Views, input: &[f32]) -> Pairing
     let count = v.n;
     let boxes = v.boxes;
     let lasts = v.lasts;
-    let firsts = detections::first_class(s, input);
+    let firsts = objects::first_class(s, input);
     let first = first_round(s, v, firsts);
     let given = first.grants;
     let left = first.left;

@@ -11,7 +11,7 @@ use lib.ListN.{length}
 use contract.Lifetimes.{Lfts}
 use Rattle.std.specs.Borrow.{Bor, MutBor}
 use borrow.Author.Tests.{eqb-true, eqb-false, ne_eqb, leb-true, leb-false}
-use Rattle.lent_tracker.specs.declared.Told.{Told}
+use Rattle.lent.specs.declared.Told.{Told}
 use Rattle.lists.specs.Lists.{pick, sum_of, All}
 use Rattle.lists.proofs.All.{all-mem, map-map}
 use Rattle.object.specs.declared.Refusal.{Refusal}

@@ -1,4 +1,4 @@
--- What a caller learns of `lent_tracker::update_in_place`: its own `ensures`, read off as the prover reads it. Definitions only.
+-- What a caller learns of `lent::update_in_place`: its own `ensures`, read off as the prover reads it. Definitions only.
 use Rattle.std.specs.Prelude.{refl}
 use base.Logic.{emp}
 use contract.Lifetimes.{Lfts}
@@ -6,8 +6,8 @@ use denote.Triple.Clauses.{AtExit}
 use borrow.Fn.Claims.{AllOf}
 use borrow.Fn.World.{World, Pr, ArgsD}
 use borrow.Fn.Read.{Read, r_last, no_know, all_models}
-use Rattle.lent_tracker.specs.contracts.update_in_place as call
-use Rattle.lent_tracker.specs.declared.Told.{Told}
+use Rattle.lent.specs.contracts.update_in_place as call
+use Rattle.lent.specs.declared.Told.{Told}
 
 -- what goes in, and the arguments as the call leaves them
 abbrev pub Dens : Lfts 4 → Type 0

@@ -2,7 +2,7 @@
 use Rattle.std.specs.Prelude.{◌≡◌, Bool, true, false, ℕ, ◌/◌, ◌≤◌, ◌<◌, T, Float, length}
 use mathlib.Core.List.{List, [], ◌∷◌, map, Memᴰ}
 use contract.Lifetimes.{Lfts}
-use Rattle.lent_tracker.specs.declared.Told.{Told}
+use Rattle.lent.specs.declared.Told.{Told}
 use Rattle.lists.specs.Lists.{up_from}
 use Rattle.object.specs.declared.Refusal.{Refusal}
 use Rattle.object.specs.declared.Refusal.TheVariants.{UnsoundState}

@@ -10,7 +10,7 @@ use Rattle.lists.specs.Lists.{keep, every}
 use Rattle.lists.proofs.Tab.{length-tab}
 use Rattle.matching.specs.Associate.{det_at}
 use Rattle.strack.specs.declared.Kept.{Kept}
-use Rattle.detections.specs.declared.Dets.{Dets}
+use Rattle.objects.specs.declared.Dets.{Dets}
 use Rattle.frame.specs.declared.Tracked.{Tracked}
 use Rattle.frame.specs.declared.Tracker.{Tracker}
 use Rattle.frame.specs.declared.Answer.{Answer}
@@ -19,7 +19,7 @@ use Rattle.frame.specs.State.{state_of}
 use Rattle.frame.specs.Frame.{reports_of, is_young}
 use Rattle.reports.specs.Written.{low_id, Written}
 use Rattle.tracks.specs.declared.Tracks.{Tracks}
-use Rattle.detections.specs.Dets.{dets_in}
+use Rattle.objects.specs.Dets.{dets_in}
 use Rattle.tracks.specs.Tracks.{tracks_of, tracks_in, given_all, born_of}
 use Rattle.tracks.proofs.Table.{tracks-count, tracks-in, few-given, length-born}
 use Rattle.settling.specs.Settled.{Answered, joined, settled_on, Ready}

@@ -2,7 +2,7 @@
 use Rattle.std.specs.Prelude.{◌≡◌, true, List, ◌++◌, ℕ, ◌+◌, ◌≤◌, ◌<◌, ltb, Float, length}
 use Rattle.lists.specs.Lists.{keep, every}
 use Rattle.strack.specs.declared.Kept.{Kept}
-use Rattle.detections.specs.declared.Dets.{Dets}
+use Rattle.objects.specs.declared.Dets.{Dets}
 use Rattle.frame.specs.declared.Tracked.{Tracked}
 use Rattle.frame.specs.declared.Tracker.{Tracker}
 use Rattle.frame.specs.declared.Answer.{Answer}
@@ -10,7 +10,7 @@ use Rattle.frame.specs.State.{state_of}
 use Rattle.frame.specs.Frame.{reports, Out, reports_of, is_young, boxes_after, ids_after}
 use Rattle.frame.specs.Contract.{outcome_of, reports_in}
 use Rattle.tracks.specs.declared.Tracks.{Tracks}
-use Rattle.detections.specs.Dets.{dets_in}
+use Rattle.objects.specs.Dets.{dets_in}
 use Rattle.one_track.specs.OneTrack.{givable}
 use Rattle.tracks.specs.Tracks.{tracks_in, given_all, born_of}
 

@@ -4,8 +4,8 @@
 ghost use Rattle.std.specs.Prelude.{length};
 ghost use Rattle.settling.specs.Settled.{Answered, joined, settled_on, Ready};
 
-use detections::Dets;
 use frame::{Answer, Outcome, Tracker};
+use objects::Dets;
 use strack::Kept;
 use tracks::Tracks;
 

@@ -23,7 +23,7 @@ use Rattle.strack.specs.Track.{kept_of}
 use Rattle.frame.specs.declared.Tracked.{Tracked}
 use Rattle.frame.specs.declared.Tracker.{Tracker}
 use Rattle.frame.specs.State.{blank}
-use Rattle.image.specs.Image.{flag_of, is_set, tagged, filter_floats, filter_at, box_tag, box_floats, box_at, list_tag, list_floats, list_at, direction_tag, direction_floats, direction_at, kept_tag, kept_floats, kept_at, Cell, encode_track, decode_track, meant_track, id_of, floats_of, words_of, cell_at, cells, encode_tracker, decode_tracker, meant, Faithful}
+use Rattle.image.specs.Image.{flag_of, is_set, tagged, filter_floats, filter_at, box_tag, box_floats, box_at, list_tag, list_floats, list_at, direction_tag, direction_floats, direction_at, kept_tag, kept_floats, kept_at, Cell, freeze_track, thaw_track, meant_track, id_of, floats_of, words_of, cell_at, cells, freeze_tracker, thaw_tracker, meant, Faithful}
 use Rattle.to_image.proofs.Putting.{box-long, list-long, direction-long}
 use Rattle.image.proofs.Parts.{tab-part}
 use Rattle.to_image.proofs.Filling.{Full, all_weaker}
@@ -131,8 +131,8 @@ pub record Shaped (e : Tracked) : Type 0 where
 skip : {A : Type 0} (l a b : List A) (k n m : ℕ) → drop k l ≡ a ++ b → length a ≡ n → k + n ≡ m → drop m l ≡ b
 skip {A} l a b k n m e h s = ap (λ (j : ℕ). drop j l) (sym s) ∙ sym (drop-drop n k l) ∙ ap (drop n) e ∙ drop_at a b n h
 
-pub track-back : (e : Tracked) → Shaped e → decode_track (encode_track e) ≡ e
-unfolding decode_track encode_track
+pub track-back : (e : Tracked) → Shaped e → thaw_track (freeze_track e) ≡ e
+unfolding thaw_track freeze_track
 track-back e h =
     let t = e.track in
     let fs = floats_of e in
@@ -183,8 +183,8 @@ map-every f p h (suc n) (a ∷ l) = rw (h a) (map-every f p h n l)
 map-all : {A B : Type 0} (f : A → B) (p : B → Bool) → ((a : A) → p (f a) ≡ true) → (l : List A) → every p (map f l) ≡ true
 map-all f p h l = ap (every p) (sym (take-length (map f l))) ∙ map-every f p h (length (map f l)) l
 
-track-meant : (e : Tracked) → meant_track (encode_track e) ≡ true
-unfolding meant_track encode_track
+track-meant : (e : Tracked) → meant_track (freeze_track e) ≡ true
+unfolding meant_track freeze_track
 track-meant e =
     let t = e.track in
     rw (flag-tagged t.frozen, box-tagged t.last, list-tagged t.list, direction-tagged t.direction) (map-all kept_tag tagged (λ k. box-tagged k.at) t.kept)
@@ -196,28 +196,28 @@ map_back f g [] h = refl
 map_back f g (a ∷ l) h = ap₂ (λ x xs. x ∷ xs) h.0 (map_back f g l h.1)
 
 -- what a state's image holds of track k is that track
-cell-back : (t : Tracker) (k : ℕ) → All Full t.table → k < length t.table → cell_at (encode_tracker t) k ≡ encode_track (get_or t.table k blank)
-unfolding cell_at encode_tracker blank encode_track
+cell-back : (t : Tracker) (k : ℕ) → All Full t.table → k < length t.table → cell_at (freeze_tracker t) k ≡ freeze_track (get_or t.table k blank)
+unfolding cell_at freeze_tracker blank freeze_track
 cell-back t k a h =
-    let i = encode_tracker t in
+    let i = freeze_tracker t in
     let w = sym (get_or-drop 2 i.wide k 0) ∙ get_or-map id_of t.table k blank in
     let f = ap (take 163) (sym (drop-drop (163 * k) 3 i.floats)) ∙ sym (flat-part floats_of 163 t.table k blank (all_weaker Full (λ e. length (floats_of e) ≡ 163) (λ e h. h.0) t.table a) h) in
     let s = ap (take 15) (sym (drop-drop (15 * k) 5 i.words)) ∙ sym (flat-part words_of 15 t.table k blank (all_weaker Full (λ e. length (words_of e) ≡ 15) (λ e h. h.1) t.table a) h) in
     (λ j. record { id = w j; floats = f j; words = s j })
 
 module _ (t : Tracker) (long : length t.table ≡ 64) (full : All Full t.table) (shaped : All Shaped t.table) where
-  cells-back : cells (encode_tracker t) ≡ map encode_track t.table
+  cells-back : cells (freeze_tracker t) ≡ map freeze_track t.table
   cells-back =
-      ext_get_or (encode_track blank) (cells (encode_tracker t)) (map encode_track t.table) (length-tab (cell_at (encode_tracker t)) 64 ∙ sym (length-map t.table encode_track ∙ long))
+      ext_get_or (freeze_track blank) (cells (freeze_tracker t)) (map freeze_track t.table) (length-tab (cell_at (freeze_tracker t)) 64 ∙ sym (length-map t.table freeze_track ∙ long))
       (λ k h.
-      let b : k < 64 = rw (length-tab (cell_at (encode_tracker t)) 64) at h in
-      get_or-tab (cell_at (encode_tracker t)) 64 (encode_track blank) k b ∙ cell-back t k full (omega (arith, b, long)) ∙ sym (get_or-map encode_track t.table k blank))
+      let b : k < 64 = rw (length-tab (cell_at (freeze_tracker t)) 64) at h in
+      get_or-tab (cell_at (freeze_tracker t)) 64 (freeze_track blank) k b ∙ cell-back t k full (omega (arith, b, long)) ∙ sym (get_or-map freeze_track t.table k blank))
 
-  tracker-back : decode_tracker (encode_tracker t) ≡ t
-  unfolding decode_tracker encode_tracker
+  tracker-back : thaw_tracker (freeze_tracker t) ≡ t
+  unfolding thaw_tracker freeze_tracker
   tracker-back =
       let s = t.settings in
-      let l = ap (map decode_track) cells-back ∙ map_back encode_track decode_track t.table (all_weaker Shaped (λ e. decode_track (encode_track e) ≡ e) track-back t.table shaped) in
+      let l = ap (map thaw_track) cells-back ∙ map_back freeze_track thaw_track t.table (all_weaker Shaped (λ e. thaw_track (freeze_track e) ≡ e) track-back t.table shaped) in
       λ i. record {
         settings = record {
           det_thresh = s.det_thresh;
@@ -234,11 +234,11 @@ module _ (t : Tracker) (long : length t.table ≡ 64) (full : All Full t.table) 
         table = l i;
       }
 
-  tracker-meant : meant (encode_tracker t) ≡ true
-  unfolding meant encode_tracker
+  tracker-meant : meant (freeze_tracker t) ≡ true
+  unfolding meant freeze_tracker
   tracker-meant =
       ap₂ (λ (a : Bool) (l : List Cell). a && every meant_track (take t.count l)) (flag-tagged t.settings.use_byte) cells-back
-      ∙ map-every encode_track meant_track track-meant t.count t.table
+      ∙ map-every freeze_track meant_track track-meant t.count t.table
 
   pub faithful : Faithful t
   faithful = record { back = tracker-back; means = tracker-meant }

@@ -18,7 +18,7 @@ use Rattle.frame.specs.declared.Tracker.{Tracker}
 use Rattle.frame.specs.State.{blank, state_of}
 use Rattle.image.specs.declared.TrackerImage.{TrackerImage}
 use Rattle.to_image.proofs.Sets.{sets-next}
-use Rattle.image.specs.Image.{f0, flag_of, is_set, tagged, encode_track, id_of, floats_of, words_of, image_of, encode_tracker, decode_tracker, Put, Cleared}
+use Rattle.image.specs.Image.{f0, flag_of, is_set, tagged, freeze_track, id_of, floats_of, words_of, image_of, freeze_tracker, thaw_tracker, Put, Cleared}
 
 -- ---- lists written part by part
 
@@ -89,11 +89,11 @@ unfolding blank
 blank-id = refl
 
 blank-floats : floats_of blank ≡ replicate 163 f0
-unfolding blank encode_track no_filter
+unfolding blank freeze_track no_filter
 blank-floats = refl
 
 blank-words : words_of blank ≡ replicate 15 0
-unfolding blank encode_track
+unfolding blank freeze_track
 blank-words = refl
 
 pub blank-full : Full blank
@@ -146,8 +146,8 @@ front-words (a ∷ b ∷ c ∷ d ∷ e ∷ l) r frames h g = ap (λ (n : ℕ). a
 -- all tracks written, the cells past them cleared, and the new totals: the image of the state of these tracks
 pub encoded : (i : TrackerImage) (es : List Tracked) (issued frames : ℕ) → length i.wide ≡ 66 → length i.floats ≡ 10435 → length i.words ≡ 965 → length es ≤ 64 → All Full es → tagged (get_or i.words 3 0) ≡ true
     → image_of (set (set (filled_to i (es ++ replicate (64 - length es) blank)).wide 0 issued) 1 (length es)) (filled_to i (es ++ replicate (64 - length es) blank)).floats (set (filled_to i (es ++ replicate (64 - length es) blank)).words 4 frames)
-    ≡ encode_tracker (state_of (decode_tracker i).settings frames issued es)
-unfolding state_of encode_tracker decode_tracker
+    ≡ freeze_tracker (state_of (thaw_tracker i).settings frames issued es)
+unfolding state_of freeze_tracker thaw_tracker
 encoded i es issued frames w f s b a g =
     let none : List Tracked = replicate (64 - length es) blank in
     let all : List Tracked = es ++ none in
@@ -172,8 +172,8 @@ take-sets {A} xs l h = ap (take (length xs)) (sets-eq xs l 0 (omega (arith, h)))
 -- all of it, with the settings and the totals in front
 pub written : (i : TrackerImage) (wide words : List ℕ) (floats : List Float) (t : Tracker) (k tag : ℕ) → length wide ≡ 66 → length floats ≡ 10435 → length words ≡ 965 → length t.table ≡ 64 → k ≡ 64 → tag ≡ flag_of t.settings.use_byte → All Full (take k t.table)
     → i ≡ filled_to (image_of (sets wide 0 (t.issued ∷ t.count ∷ [])) (sets floats 0 (t.settings.det_thresh ∷ t.settings.iou_threshold ∷ t.settings.inertia ∷ [])) (sets words 0 (t.settings.max_age ∷ t.settings.min_hits ∷ t.settings.delta_t ∷ tag ∷ t.frames ∷ []))) (take k t.table)
-    → i ≡ encode_tracker t
-unfolding encode_tracker
+    → i ≡ freeze_tracker t
+unfolding freeze_tracker
 written i wide words floats t k tag w f s n e g a h =
     let ws = t.issued ∷ t.count ∷ [] in
     let fs = t.settings.det_thresh ∷ t.settings.iou_threshold ∷ t.settings.inertia ∷ [] in

@@ -24,7 +24,7 @@ use Rattle.strack.specs.declared.Track.{Track}
 use Rattle.strack.specs.contracts.Track as Tr
 use Rattle.frame.specs.declared.Tracked.{Tracked}
 use Rattle.frame.specs.contracts.Tracked as Td
-use Rattle.image.specs.Image.{flag_of, filter_floats, box_tag, box_floats, list_tag, list_floats, direction_tag, direction_floats, kept_tag, kept_floats, encode_track, floats_of, words_of}
+use Rattle.image.specs.Image.{flag_of, filter_floats, box_tag, box_floats, list_tag, list_floats, direction_tag, direction_floats, kept_tag, kept_floats, freeze_track, floats_of, words_of}
 use Rattle.to_image.proofs.Sets.{sets-next}
 
 -- ---- how many numbers
@@ -69,7 +69,7 @@ module _ (t : Track) (vs : List Val) (h : Is Tr.the_row t vs) where
   saved-filter = filter-long t.saved _ h.1.1.1.0
 
 pub full : (e : Tracked) (vs : List Val) → Is Td.the_row e vs → (length (floats_of e) ≡ 163) × (length (words_of e) ≡ 15)
-unfolding encode_track
+unfolding freeze_track
 full e vs h =
     let t : Track = e.track in
     let i : Is Tr.the_row t h.0.1.0 = h.1.1.1.0 in
@@ -110,7 +110,7 @@ module _ (e : Tracked) where
       → f ≡ sets d (k + 121) (direction_floats t.direction)
       → r ≡ sets f (k + 123) (flat kept_floats t.kept)
       → r ≡ sets l k (floats_of e)
-  unfolding encode_track
+  unfolding freeze_track
   floats-put vs h k l a b c d f r p₁ p₂ p₃ p₄ p₅ p₆ =
       let one : k + 56 ≡ k + length (filter_floats t.filter) = omega (arith, first-filter t _ h.1.1.1.0) in
       let two : k + 112 ≡ k + 56 + length (filter_floats t.saved) = omega (arith, saved-filter t _ h.1.1.1.0) in
@@ -131,5 +131,5 @@ module _ (e : Tracked) where
       → direction ≡ direction_tag t.direction
       → r ≡ sets (set (set (set (set (set (set (set l k frozen) (k + 1) t.age) (k + 2) t.streak) (k + 3) t.since) (k + 4) last) (k + 5) list) (k + 6) direction) (k + 7) (map kept_tag t.kept)
       → r ≡ sets l k (words_of e)
-  unfolding encode_track
+  unfolding freeze_track
   words-put k frozen last list direction l r p₁ p₂ p₃ p₄ p = rw (← p₁, ← p₂, ← p₃, ← p₄) (simp unary_clauses at p)

@@ -1,10 +1,10 @@
-// The image of a state, and that it is faithful. The lists are lent and each track is written alone, so no call but `encode` copies the whole.
+// The image of a state, and that it is faithful. The lists are lent and each track is written alone, so no call but `freeze` copies the whole.
 #![tactic(auto)]
 
 ghost use Rattle.std.specs.Prelude.{◌≡◌, ◌+◌, ◌≤◌, ◌<◌, [], ◌∷◌, map};
 ghost use Rattle.std.proofs.lemmas.List.Edits.{sets};
 ghost use Rattle.lists.specs.Lists.{flat};
-ghost use Rattle.image.specs.Image.{flag_of, filter_floats, box_tag, box_floats, list_tag, list_floats, direction_tag, direction_floats, kept_tag, kept_floats, image_of, encode_tracker, Whole, Put, Cleared, Faithful};
+ghost use Rattle.image.specs.Image.{flag_of, filter_floats, box_tag, box_floats, list_tag, list_floats, direction_tag, direction_floats, kept_tag, kept_floats, image_of, freeze_tracker, Whole, Put, Cleared, Faithful};
 
 use frame::{Tracked, Tracker};
 use image::TrackerImage;
@@ -192,7 +192,7 @@ pub fn lengths(wide: &[u64; 66], floats: &[f32; 10435], words: &[u32; 965])
 
 // Writes the image of a state over whatever the lists held.
 pub fn put(wide: &mut [u64; 66], floats: &mut [f32; 10435], words: &mut [u32; 965], t: Tracker)
-    ensures { image_of wide.new floats.new words.new ≡ encode_tracker t }
+    ensures { image_of wide.new floats.new words.new ≡ freeze_tracker t }
 {
     lengths(wide, floats, words);
     let s = t.settings;
@@ -215,8 +215,8 @@ pub fn put(wide: &mut [u64; 66], floats: &mut [f32; 10435], words: &mut [u32; 96
 }
 
 // The image of a state.
-pub fn encode(t: Tracker) -> TrackerImage
-    ensures { result ≡ encode_tracker t }
+pub fn freeze(t: Tracker) -> TrackerImage
+    ensures { result ≡ freeze_tracker t }
 {
     let mut wide = [0; 66];
     let mut floats = [0.0; 10435];

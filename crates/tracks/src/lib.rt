@@ -6,12 +6,12 @@ ghost use Rattle.std.specs.Prelude.{◌≡◌, true, [], ◌++◌, ◌+◌, ◌�
 ghost use Rattle.lists.specs.Lists.{keep, every};
 ghost use Rattle.frame.specs.State.{live, state_rules};
 ghost use Rattle.frame.specs.Frame.{predicted_tracks, is_young};
-ghost use Rattle.detections.specs.Dets.{dets_in};
+ghost use Rattle.objects.specs.Dets.{dets_in};
 ghost use Rattle.one_track.specs.OneTrack.{givable};
 ghost use Rattle.tracks.specs.Tracks.{tracks_of, tracks_in, given_all, born_of};
 
-use detections::Dets;
 use frame::{Settings, Tracked, Tracker};
+use objects::Dets;
 use strack::Kept;
 
 // Up to 64 tracks in birth order; cells past them are blank.

@@ -15,7 +15,7 @@ use Rattle.frame.specs.Frame as frame
 use Rattle.frame.specs.Frame.{Call, Out, refused, reports, frame_of, boxes_after, ids_after}
 use Rattle.frame.specs.Contract.{told_of, number_in, reports_in, call_of, Framed}
 use Rattle.image.specs.declared.TrackerImage.{TrackerImage}
-use Rattle.image.specs.Image.{encode_tracker, decode_tracker, meant}
+use Rattle.image.specs.Image.{freeze_tracker, thaw_tracker, meant}
 use Rattle.update_in_lists.specs.declared.Reply.{Reply}
 use Rattle.update_in_lists.specs.Host.{image_after, frame_by, frame_on, reply_of, Hosted}
 
@@ -41,7 +41,7 @@ no-reports (refused r) h = refl
 no-reports (reports rs) h = absurd (h refl)
 
 -- 0 is an accepted frame's
-new-image : (i : TrackerImage) (r : frame.Reply) (next : Tracker) → number_in r ≡ 0 → encode_tracker next ≡ image_after i r next
+new-image : (i : TrackerImage) (r : frame.Reply) (next : Tracker) → number_in r ≡ 0 → freeze_tracker next ≡ image_after i r next
 new-image i (refused r) next h = absurd (nonzero r h)
 new-image i (reports rs) next h = refl
 
@@ -65,12 +65,12 @@ module _ (i : TrackerImage) (input boxes : List Float) (ids : List ℕ) where
   pub unmeant : meant i ≡ false → Hosted i input boxes ids i (record { number = 1; count = 0 }) boxes ids
   unmeant e = hosted (frame_by i call false) (by-test false e) i (record { number = 1; count = 0 }) boxes ids refl refl refl refl
 
-  module _ (e : meant i ≡ true) (t : Tracker) (z : t ≡ decode_tracker i) (a : Answer) (boxes' : List Float) (ids' : List ℕ) (g : Framed t input boxes ids a boxes' ids') (n : ℕ) (k : n ≡ told_of a.outcome) where
-    f : Framed (decode_tracker i) input boxes ids a boxes' ids'
+  module _ (e : meant i ≡ true) (t : Tracker) (z : t ≡ thaw_tracker i) (a : Answer) (boxes' : List Float) (ids' : List ℕ) (g : Framed t input boxes ids a boxes' ids') (n : ℕ) (k : n ≡ told_of a.outcome) where
+    f : Framed (thaw_tracker i) input boxes ids a boxes' ids'
     f = subst (λ (x : Tracker). Framed x input boxes ids a boxes' ids') z g
 
     abbrev out : Out Tracker
-    out = frame_of (decode_tracker i) call
+    out = frame_of (thaw_tracker i) call
 
     number : n ≡ number_in out.reply
     number = k ∙ f.number
@@ -84,10 +84,10 @@ module _ (i : TrackerImage) (input boxes : List Float) (ids : List ℕ) where
         f.boxes-after
         f.ids-after
 
-    pub stepped : n ≡ 0 → (image : TrackerImage) → image ≡ encode_tracker a.tracker → Hosted i input boxes ids image (record { number = n; count = a.count }) boxes' ids'
+    pub stepped : n ≡ 0 → (image : TrackerImage) → image ≡ freeze_tracker a.tracker → Hosted i input boxes ids image (record { number = n; count = a.count }) boxes' ids'
     stepped h image p =
         hosted (frame_by i call true) (by-test true e) image (record { number = n; count = a.count }) boxes' ids'
-        (p ∙ ap encode_tracker f.next ∙ new-image i out.reply out.next (sym number ∙ h))
+        (p ∙ ap freeze_tracker f.next ∙ new-image i out.reply out.next (sym number ∙ h))
         (rw (number, f.count))
         f.boxes-after
         f.ids-after

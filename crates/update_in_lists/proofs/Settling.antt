@@ -27,9 +27,9 @@ use Rattle.frame.specs.declared.Outcome.{Outcome}
 use Rattle.rules.specs.Rules.{outcome_at, Told}
 use Rattle.frame.proofs.Rules.{Clear, clear}
 use Rattle.frame.proofs.Seats.{rounds-length}
-use Rattle.detections.specs.declared.Dets.{Dets}
-use Rattle.detections.specs.Dets.{five_of, cells_of, dets_of, dets_in}
-use Rattle.detections.proofs.Cells.{flat-length, padded-length}
+use Rattle.objects.specs.declared.Dets.{Dets}
+use Rattle.objects.specs.Dets.{five_of, cells_of, dets_of, dets_in}
+use Rattle.objects.proofs.Cells.{flat-length, padded-length}
 use Rattle.rounds.specs.declared.Pairing.{Pairing}
 use Rattle.views.specs.declared.Views.{Views}
 use Rattle.views.specs.Views.{views_of}
@@ -46,7 +46,7 @@ use Rattle.reports.proofs.Writing as writing
 use Rattle.settling.specs.Settled.{Ready}
 use Rattle.settling.proofs.Ids.{low-joined}
 use Rattle.image.specs.declared.TrackerImage.{TrackerImage}
-use Rattle.image.specs.Image.{tagged, byte_in, issued_in, count_in, frames_in, decode_tracker, encode_tracker, meant, Put}
+use Rattle.image.specs.Image.{tagged, byte_in, issued_in, count_in, frames_in, thaw_tracker, freeze_tracker, meant, Put}
 use Rattle.to_image.proofs.Filling.{Full}
 use Rattle.frame_in_lists.specs.InPlace.{settings_in, ToldOf, Closed}
 use Rattle.frame_in_lists.proofs.Turns.{Holds, holds_at, Keeping, keeping_none, still, keeping-taken, keeping-left, young, young-taken, young-left, born-more}
@@ -70,16 +70,16 @@ looked-as {i} {s} {w} {w'} {vb} {vd} {vl} {vp} {vb'} {vd'} {vl'} {vp'} {from} {n
 
 pub record Open (i : TrackerImage) (s : Settings) (input boxes : List Float) (ids : List ℕ) : Type 0 where
   pub same : s ≡ settings_in i
-  pub fine : (meant i && state_rules (decode_tracker i)) ≡ true
-  pub unrefused : early (decode_tracker i).frames (call_of input boxes ids) ≡ none
+  pub fine : (meant i && state_rules (thaw_tracker i)) ≡ true
+  pub unrefused : early (thaw_tracker i).frames (call_of input boxes ids) ≡ none
 
 module _ {i : TrackerImage} {s : Settings} {input boxes : List Float} {ids : List ℕ} (o : Open i s input boxes ids) where
   pub head : tagged (byte_in i) ≡ true
   unfolding meant
-  head = and_left (tagged (byte_in i)) _ (and_left (meant i) (state_rules (decode_tracker i)) o.fine)
+  head = and_left (tagged (byte_in i)) _ (and_left (meant i) (state_rules (thaw_tracker i)) o.fine)
 
-  pub is-clear : Clear (decode_tracker i).frames (call_of input boxes ids)
-  is-clear = clear (decode_tracker i).frames (call_of input boxes ids) o.unrefused
+  pub is-clear : Clear (thaw_tracker i).frames (call_of input boxes ids)
+  is-clear = clear (thaw_tracker i).frames (call_of input boxes ids) o.unrefused
 
 -- what the rounds are given: its tracks ahead, in the table and as views
 pub record Opened (i : TrackerImage) (s : Settings) (input boxes : List Float) (ids : List ℕ) (w : List Tracked) (ahead : ℕ) (v : Views) : Type 0 where
@@ -95,8 +95,8 @@ pub record Paired (i : TrackerImage) (s : Settings) (input boxes : List Float) (
 
 -- every track was looked at, and the early rows gave n
 module _ {i : TrackerImage} {s : Settings} {w : List Tracked} {vb vd vl vp : List Float} {from ahead u : ℕ} (h : Looked i s w vb vd vl vp from ahead u) (l : count_in i ≤ u) (input boxes : List Float) (ids : List ℕ) {n : ℕ} (o : Outcome) (p : n ≡ told_of o) (q : Told (frames_in i) (length input) (length boxes) (length ids) o) where
-  row : n ≡ told_of (outcome_at (early (decode_tracker i).frames (call_of input boxes ids)))
-  unfolding decode_tracker
+  row : n ≡ told_of (outcome_at (early (thaw_tracker i).frames (call_of input boxes ids)))
+  unfolding thaw_tracker
   row = p ∙ ap told_of (q (call_of input boxes ids) refl refl refl)
 
   pub early-refused : (n ≡ 0 → ⊥) → Hosted i input boxes ids i (record { number = n; count = 0 }) boxes ids
@@ -111,7 +111,7 @@ module _ {i : TrackerImage} {s : Settings} {w : List Tracked} {vb vd vl vp : Lis
 
 module _ {i : TrackerImage} {s : Settings} {input boxes : List Float} {ids : List ℕ} {w : List Tracked} {ahead : ℕ} {v : Views} (o : Opened i s input boxes ids w ahead v) where
   pub opened-few : ahead ≤ 64
-  opened-few = omega (arith, o.holds.count, predicted-short (decode_tracker i) (and_right (meant i) (state_rules (decode_tracker i)) o.on.fine))
+  opened-few = omega (arith, o.holds.count, predicted-short (thaw_tracker i) (and_right (meant i) (state_rules (thaw_tracker i)) o.on.fine))
 
   module _ (p : Pairing) (f : (vs : List View) → v ≡ views_of vs → Pairs (rounds s vs (objects_of input)) p) where
     opened-pairs : Pairs (rounds (settings_in i) (map (tracked_view (settings_in i)) (ahead_in i)) (objects_of input)) p
@@ -136,10 +136,10 @@ abbrev pub young_in : TrackerImage → Pairing → List Tracked
 young_in i p = keep (is_young (settings_in i)) (given_all (settings_in i).delta_t (ahead_in i) p.grants)
 
 abbrev pub left_in : TrackerImage → Pairing → List Tracked
-left_in i p = young_in i p ++ born_of (decode_tracker i).issued (dets_in p.left)
+left_in i p = young_in i p ++ born_of (thaw_tracker i).issued (dets_in p.left)
 
 module _ {i : TrackerImage} {s : Settings} {input boxes : List Float} {ids : List ℕ} {p : Pairing} (h : Paired i s input boxes ids p) where
-  pub settles : Ready (decode_tracker i) (tracks_of (ahead_in i)) p.left (length boxes) (length ids)
+  pub settles : Ready (thaw_tracker i) (tracks_of (ahead_in i)) p.left (length boxes) (length ids)
   settles = is-ready i input boxes ids h.on.fine h.on.unrefused p h.pairs h.room
 
   pub grants-long : length p.grants ≡ 64
@@ -160,8 +160,8 @@ module _ {i : TrackerImage} {s : Settings} {input boxes : List Float} {ids : Lis
   givables : every givable (ahead_in i) ≡ true
   givables = sym (ap (every givable) (tracks-in (ahead_in i))) ∙ settles.tracks
 
-  lows : every (λ (e : Tracked). ltb e.id (decode_tracker i).issued) (ahead_in i) ≡ true
-  lows = sym (ap (every (λ (e : Tracked). ltb e.id (decode_tracker i).issued)) (tracks-in (ahead_in i))) ∙ settles.low
+  lows : every (λ (e : Tracked). ltb e.id (thaw_tracker i).issued) (ahead_in i) ≡ true
+  lows = sym (ap (every (λ (e : Tracked). ltb e.id (thaw_tracker i).issued)) (tracks-in (ahead_in i))) ∙ settles.low
 
   pub few-youngs : length (young_in i p) ≤ length (ahead_in i)
   few-youngs =
@@ -169,14 +169,14 @@ module _ {i : TrackerImage} {s : Settings} {input boxes : List Float} {ids : Lis
       (arith, keep-short (is_young (settings_in i)) (given_all (settings_in i).delta_t (ahead_in i) p.grants), few-given (settings_in i).delta_t (ahead_in i) p.grants)
 
   pub leaves : length (left_in i p) ≡ length (young_in i p) + p.left.n
-  leaves = omega (arith, length-append (young_in i p) (born_of (decode_tracker i).issued (dets_in p.left)), length-born (decode_tracker i).issued (dets_in p.left), length-tab (det_at p.left.cells) p.left.n)
+  leaves = omega (arith, length-append (young_in i p) (born_of (thaw_tracker i).issued (dets_in p.left)), length-born (thaw_tracker i).issued (dets_in p.left), length-tab (det_at p.left.cells) p.left.n)
 
   pub low-left : every low_id (left_in i p) ≡ true
   low-left =
       sym (ap (every low_id) (left-young i input boxes ids h.on.fine h.on.unrefused p h.pairs h.room))
-      ∙ every-keep low_id (is_young (settings_in i)) (given_all (settings_in i).delta_t (tracks_in (tracks_of (ahead_in i))) p.grants ++ born_of (decode_tracker i).issued (dets_in p.left))
-      (ap (λ (l : List Tracked). every low_id (given_all (settings_in i).delta_t l p.grants ++ born_of (decode_tracker i).issued (dets_in p.left))) (tracks-in (ahead_in i))
-      ∙ low-joined (decode_tracker i).issued (settings_in i).delta_t (ahead_in i) p.grants (dets_in p.left) lows (omega (arith, length-tab (det_at p.left.cells) p.left.n, h.room, settles.issued)))
+      ∙ every-keep low_id (is_young (settings_in i)) (given_all (settings_in i).delta_t (tracks_in (tracks_of (ahead_in i))) p.grants ++ born_of (thaw_tracker i).issued (dets_in p.left))
+      (ap (λ (l : List Tracked). every low_id (given_all (settings_in i).delta_t l p.grants ++ born_of (thaw_tracker i).issued (dets_in p.left))) (tracks-in (ahead_in i))
+      ∙ low-joined (thaw_tracker i).issued (settings_in i).delta_t (ahead_in i) p.grants (dets_in p.left) lows (omega (arith, length-tab (det_at p.left.cells) p.left.n, h.room, settles.issued)))
 
 -- ---- boxes and misses
 
@@ -247,7 +247,7 @@ pub record Bearing (i : TrackerImage) (s : Settings) (input boxes : List Float) 
   pub paired : Paired i s input boxes ids (pairing_of grants births cells)
   pub count : n ≡ length (young_in i (pairing_of grants births cells))
   pub reached : b ≤ births
-  pub holds : Holds (table.joined (young_in i (pairing_of grants births cells)) (decode_tracker i).issued (det_at cells) b) (n + b) w
+  pub holds : Holds (table.joined (young_in i (pairing_of grants births cells)) (thaw_tracker i).issued (det_at cells) b) (n + b) w
 
 module _ {i : TrackerImage} {s : Settings} {input boxes : List Float} {ids : List ℕ} {births : ℕ} {cells : List Float} {n : ℕ} {w : List Tracked} where
   pub bearing-first : {ks : List Kept} → Paired i s input boxes ids (pairing_of ks births cells) → Holds (young_in i (pairing_of ks births cells)) n w → Bearing i s input boxes ids births cells n w 0
@@ -259,32 +259,32 @@ module _ {i : TrackerImage} {s : Settings} {input boxes : List Float} {ids : Lis
         paired = h;
         count = k.count;
         reached = omega arith;
-        holds = subst (λ (m : ℕ). Holds (table.joined y (decode_tracker i).issued (det_at cells) 0) m w) z (subst (λ (l : List Tracked). Holds l n w) (sym (append-nil y)) k);
+        holds = subst (λ (m : ℕ). Holds (table.joined y (thaw_tracker i).issued (det_at cells) 0) m w) z (subst (λ (l : List Tracked). Holds l n w) (sym (append-nil y)) k);
       }
 
   module _ {b : ℕ} (h : Bearing i s input boxes ids births cells n w b) where
     pub bearing-room : n + births ≤ 64
     bearing-room = omega (arith, h.count, few-youngs h.paired, h.paired.room)
 
-    pub bearing-ids : (decode_tracker i).issued + births ≤ 64000000
+    pub bearing-ids : (thaw_tracker i).issued + births ≤ 64000000
     bearing-ids = omega (arith, (settles h.paired).issued, h.paired.room)
 
     pub bearing-long : length cells ≡ 320
     bearing-long = cells-long h.paired
 
-    pub bearing-turn : {d : Detection} {x : Tracked} → b < births → d ≡ det_at cells b → x ≡ newborn ((decode_tracker i).issued + b) d → Bearing i s input boxes ids births cells n (set w (n + b) x) (b + 1)
+    pub bearing-turn : {d : Detection} {x : Tracked} → b < births → d ≡ det_at cells b → x ≡ newborn ((thaw_tracker i).issued + b) d → Bearing i s input boxes ids births cells n (set w (n + b) x) (b + 1)
     bearing-turn {d} {x} below is q = record {
       grants = h.grants;
       paired = h.paired;
       count = h.count;
       reached = omega (arith, below);
-      holds = born-more (young_in i (pairing_of h.grants births cells)) n (decode_tracker i).issued (det_at cells) b w d x h.holds (omega (arith, bearing-room, below)) is q;
+      holds = born-more (young_in i (pairing_of h.grants births cells)) n (thaw_tracker i).issued (det_at cells) b w d x h.holds (omega (arith, bearing-room, below)) is q;
     }
 
     pub bearing-done : births ≤ b → Holds (left_in i (pairing_of h.grants births cells)) (n + births) w
     bearing-done l =
         let e : b ≡ births = omega (arith, l, h.reached) in
-        subst (λ (k : ℕ). Holds (table.joined (young_in i (pairing_of h.grants births cells)) (decode_tracker i).issued (det_at cells) k) (n + k) w) e h.holds
+        subst (λ (k : ℕ). Holds (table.joined (young_in i (pairing_of h.grants births cells)) (thaw_tracker i).issued (det_at cells) k) (n + k) w) e h.holds
 
 -- ---- reports, and the tracks written back
 
@@ -299,7 +299,7 @@ pub record Telling (i : TrackerImage) (s : Settings) (input boxes₀ : List Floa
   pub holds : Holds (left_in i pairing) live w
   pub reached : r ≤ live
   pub few : n + r ≤ live
-  pub written : Written (reports_of (settings_in i) ((decode_tracker i).frames + 1) (told i pairing r)) n boxes₀ ids₀ boxes ids
+  pub written : Written (reports_of (settings_in i) ((thaw_tracker i).frames + 1) (told i pairing r)) n boxes₀ ids₀ boxes ids
   pub stored : i' ≡ stored_from i r (drop r (left_in i pairing))
   pub full : All Full (drop r (left_in i pairing))
 
@@ -307,7 +307,7 @@ pub telling-first : {i : TrackerImage} {s : Settings} {input boxes : List Float}
 telling-first {i} {s} {input} {boxes} {ids} {p} {live} {w} h g =
     let t : Tracks = tracks_of (left_in i p) in
     let z : live ≡ t.count = g.count ∙ sym (tracks-count (left_in i p)) in
-    let v : reports_of (settings_in i) ((decode_tracker i).frames + 1) (told i p live) ≡ [] = ap (λ (k : ℕ). reports_of (settings_in i) ((decode_tracker i).frames + 1) (told i p k)) z ∙ writing.none_told (settings_in i) ((decode_tracker i).frames + 1) t boxes ids in
+    let v : reports_of (settings_in i) ((thaw_tracker i).frames + 1) (told i p live) ≡ [] = ap (λ (k : ℕ). reports_of (settings_in i) ((thaw_tracker i).frames + 1) (told i p k)) z ∙ writing.none_told (settings_in i) ((thaw_tracker i).frames + 1) t boxes ids in
     let nil : drop live (left_in i p) ≡ [] = drop_of_length-le (left_in i p) {i = live} (omega (arith, g.count)) in
     record {
       pairing = p;
@@ -332,7 +332,7 @@ module _ {i : TrackerImage} {s : Settings} {input boxes₀ : List Float} {ids₀
   ts = tracks_of es
 
   abbrev rs : List Tracked → List Report
-  rs l = reports_of (settings_in i) ((decode_tracker i).frames + 1) l
+  rs l = reports_of (settings_in i) ((thaw_tracker i).frames + 1) l
 
   wide : (256 ≤ length boxes₀) × (64 ≤ length ids₀)
   wide = ((is-clear h.paired.on).boxes, (is-clear h.paired.on).ids)
@@ -376,9 +376,9 @@ module _ {i : TrackerImage} {s : Settings} {input boxes₀ : List Float} {ids₀
       (omega (arith, telling-ids, h.few, more, telling-live, wide.1), ap low_id held ∙ every-at low_id es (r - 1) d (low-left h.paired) inside),
     )
 
-    pub telling-turn : {n' : ℕ} {boxes' : List Float} {ids' : List ℕ} {i₂ : TrackerImage} → ToldOf s ((decode_tracker i).frames + 1) e n boxes ids n' boxes' ids' → Put (r - 1) e i₁ i₂ → Telling i s input boxes₀ ids₀ births live w i₂ boxes' ids' n' (r - 1)
+    pub telling-turn : {n' : ℕ} {boxes' : List Float} {ids' : List ℕ} {i₂ : TrackerImage} → ToldOf s ((thaw_tracker i).frames + 1) e n boxes ids n' boxes' ids' → Put (r - 1) e i₁ i₂ → Telling i s input boxes₀ ids₀ births live w i₂ boxes' ids' n' (r - 1)
     telling-turn {n'} {boxes'} {ids'} {i₂} was put =
-        let f : ℕ = (decode_tracker i).frames + 1 in
+        let f : ℕ = (thaw_tracker i).frames + 1 in
         let b : Bool = is_reported s f e.track in
         let a : b ≡ is_reported (settings_in i) f (get_or ts.table (r - 1) d).track = ap₂ (λ (x : Settings) (y : Tracked). is_reported x f y.track) h.paired.on.same cell in
         let c : ts.count ≡ live = tracks-count es ∙ sym h.holds.count in
@@ -401,11 +401,11 @@ module _ {i : TrackerImage} {s : Settings} {input boxes₀ : List Float} {ids₀
 
   -- all of them told and written, and the lists closed: the call's answer
   pub telling-done : r ≡ 0 → {i₂ : TrackerImage} → Closed (issued_in i + births) live (frames_in i + 1) i₁ i₂ → Hosted i input boxes₀ ids₀ i₂ (record { number = 0; count = n }) boxes ids
-  unfolding decode_tracker
+  unfolding thaw_tracker
   telling-done z {i₂} c =
       let v : Written (rs es) n boxes₀ ids₀ boxes ids = subst (λ (l : List Tracked). Written (rs l) n boxes₀ ids₀ boxes ids) (ap (told i p) z ∙ tracks-in es) h.written in
       let q : i₁ ≡ stored_from i 0 es = h.stored ∙ ap (λ (k : ℕ). stored_from i k (drop k es)) z in
       let f : All Full es = subst (λ (k : ℕ). All Full (drop k es)) z h.full in
-      let j : i₂ ≡ encode_tracker (state_of (settings_in i) (frames_in i + 1) (issued_in i + births) es) = stored-done i i₁ i₂ es (issued_in i + births) live (frames_in i + 1) q f h.holds.count telling-live (head h.paired.on) c in
+      let j : i₂ ≡ freeze_tracker (state_of (settings_in i) (frames_in i + 1) (issued_in i + births) es) = stored-done i i₁ i₂ es (issued_in i + births) live (frames_in i + 1) q f h.holds.count telling-live (head h.paired.on) c in
       step-accepted i input boxes₀ ids₀ h.paired.on.fine h.paired.on.unrefused p h.paired.pairs h.paired.room i₂ n boxes ids v
-      (j ∙ ap (λ (k : ℕ). encode_tracker (state_of (settings_in i) (frames_in i + 1) (issued_in i + k) es)) h.born)
+      (j ∙ ap (λ (k : ℕ). freeze_tracker (state_of (settings_in i) (frames_in i + 1) (issued_in i + k) es)) h.born)

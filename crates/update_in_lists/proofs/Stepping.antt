@@ -27,7 +27,7 @@ use Rattle.frame.specs.Rounds.{rounds}
 use Rattle.frame.specs.Frame.{Call, Report, early, tracked_view, predicted_tracks, report_of, is_reported, snoc_if, reports_of, is_young, accepted_frame}
 use Rattle.frame.specs.Contract.{told_of, call_of, Framed}
 use Rattle.rules.specs.Rules.{outcome_at}
-use Rattle.detections.specs.Dets.{dets_in}
+use Rattle.objects.specs.Dets.{dets_in}
 use Rattle.rounds.specs.declared.Pairing.{Pairing}
 use Rattle.rounds.specs.Pairs.{Pairs}
 use Rattle.tracks.specs.declared.Tracks.{Tracks}
@@ -40,7 +40,7 @@ use Rattle.oc_sort_tracker.specs.Refused.{refused_with}
 use Rattle.oc_sort_tracker.proofs.Agree.{refused_full, accepted-agree, ready, left-short}
 use Rattle.oc_sort_tracker.proofs.Framing.{unsound, early-refused, accepted}
 use Rattle.image.specs.declared.TrackerImage.{TrackerImage}
-use Rattle.image.specs.Image.{encode_tracker, decode_tracker, meant}
+use Rattle.image.specs.Image.{freeze_tracker, thaw_tracker, meant}
 use Rattle.update_in_lists.specs.Host.{Hosted}
 use Rattle.update_in_lists.proofs.Hosting.{nonzero, unmeant, stopped, stepped}
 
@@ -86,7 +86,7 @@ every-keep p q (x ∷ l) h = go (q x) (and_left (p x) (every p l) h) (every-keep
 
 module _ (i : TrackerImage) (input boxes : List Float) (ids : List ℕ) where
   abbrev pub t : Tracker
-  t = decode_tracker i
+  t = thaw_tracker i
 
   abbrev call : Call
   call = call_of input boxes ids
@@ -179,8 +179,8 @@ module _ (i : TrackerImage) (input boxes : List Float) (ids : List ℕ) where
           unfolding settled_on
           settled = ap (state_of t.settings (t.frames + 1) (t.issued + p.left.n)) (sym left-young)
 
-          pub step-accepted : (image : TrackerImage) (n : ℕ) (boxes' : List Float) (ids' : List ℕ) → Written (reports_of t.settings (t.frames + 1) fs) n boxes ids boxes' ids' → image ≡ encode_tracker state_after
+          pub step-accepted : (image : TrackerImage) (n : ℕ) (boxes' : List Float) (ids' : List ℕ) → Written (reports_of t.settings (t.frames + 1) fs) n boxes ids boxes' ids' → image ≡ freeze_tracker state_after
               → Hosted i input boxes ids image (record { number = 0; count = n }) boxes' ids'
           step-accepted image n boxes' ids' w e =
               let a : Answered (accepted_frame t input) boxes ids (answer n) boxes' ids' = accepted-agree t input ts refl p over (answer n) boxes boxes' ids ids' fits (answered n boxes' ids' w) in
-              stepped i input boxes ids means t refl (answer n) boxes' ids' (accepted t input boxes ids (answer n) fine k boxes' ids' a) 0 refl refl image (e ∙ ap encode_tracker settled)
+              stepped i input boxes ids means t refl (answer n) boxes' ids' (accepted t input boxes ids (answer n) fine k boxes' ids' a) 0 refl refl image (e ∙ ap freeze_tracker settled)

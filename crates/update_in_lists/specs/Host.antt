@@ -6,7 +6,7 @@ use Rattle.frame.specs.Frame as frame
 use Rattle.frame.specs.Frame.{Call, Out, refused, reports, frame_of, boxes_after, ids_after}
 use Rattle.frame.specs.Contract.{number_in, reports_in, call_of}
 use Rattle.image.specs.declared.TrackerImage.{TrackerImage}
-use Rattle.image.specs.Image.{encode_tracker, decode_tracker, meant}
+use Rattle.image.specs.Image.{freeze_tracker, thaw_tracker, meant}
 use Rattle.update_in_lists.specs.declared.Reply.{Reply}
 
 -- ---- a frame
@@ -14,10 +14,10 @@ use Rattle.update_in_lists.specs.declared.Reply.{Reply}
 -- the next state's image; a refusal leaves the image as it was
 abbrev pub image_after : TrackerImage → frame.Reply → Tracker → TrackerImage
 image_after i (refused r) next = i
-image_after i (reports rs) next = encode_tracker next
+image_after i (reports rs) next = freeze_tracker next
 
 abbrev pub frame_by : TrackerImage → Call → Bool → Out TrackerImage
-frame_by i c true = let o = frame_of (decode_tracker i) c in record { reply = o.reply; next = image_after i o.reply o.next }
+frame_by i c true = let o = frame_of (thaw_tracker i) c in record { reply = o.reply; next = image_after i o.reply o.next }
 frame_by i c false = record { reply = refused UnsoundState; next = i }
 
 -- a frame on the state that the image stands for; an image that means nothing is an unsound state

@@ -39,7 +39,7 @@ pub fn update(
     let count = wide[1] as usize;
     let blank = one_track::blank();
     let mut table = [blank; 64];
-    let nan = detections::nan();
+    let nan = objects::nan();
     let mut seen = [nan; 256];
     let mut steps = [nan; 128];
     let mut lasts = [nan; 256];
@@ -61,7 +61,7 @@ pub fn update(
         from = a.next;
         u += 1;
     }
-    let number = new_in_lists::told(rules::early(frames, input.len(), boxes.len(), ids.len()));
+    let number = making::told(rules::early(frames, input.len(), boxes.len(), ids.len()));
     if number != 0 {
         return replied(number, 0);
     }

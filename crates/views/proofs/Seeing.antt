@@ -11,9 +11,9 @@ use Rattle.lists.proofs.All.{map-append}
 use Rattle.matching.specs.Associate.{det_at, corners_at, step_at}
 use Rattle.frame.specs.Rounds.{View, no_view, view_at}
 use Rattle.lists.specs.Lists.{flat}
-use Rattle.detections.specs.Cells.{padded}
-use Rattle.detections.proofs.Cells.{flat-push, flat-length, padded-length, padded-at, padded-first}
-use Rattle.detections.proofs.Reading.{four-at, five-at}
+use Rattle.objects.specs.Cells.{padded}
+use Rattle.objects.proofs.Cells.{flat-push, flat-length, padded-length, padded-at, padded-first}
+use Rattle.objects.proofs.Reading.{four-at, five-at}
 use Rattle.views.specs.Views.{two_of, views_of}
 
 -- ---- one track more

@@ -4,8 +4,8 @@ use Rattle.matching.specs.Associate.{four_of}
 use Rattle.pair.specs.Angle.{Step}
 use Rattle.frame.specs.Rounds.{View}
 use Rattle.lists.specs.Lists.{flat}
-use Rattle.detections.specs.Cells.{padded}
-use Rattle.detections.specs.Dets.{five_of}
+use Rattle.objects.specs.Cells.{padded}
+use Rattle.objects.specs.Dets.{five_of}
 use Rattle.views.specs.declared.Views.{Views}
 
 abbrev pub two_of : Step → List Float

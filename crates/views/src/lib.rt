@@ -3,7 +3,7 @@
 
 ghost use Rattle.std.specs.Prelude.{◌≡◌, map, ◌+◌, ◌*◌, ◌≤◌, ◌<◌, length, take};
 ghost use Rattle.std.proofs.lemmas.List.Edits.{sets};
-ghost use Rattle.detections.specs.Dets.{five_of};
+ghost use Rattle.objects.specs.Dets.{five_of};
 ghost use Rattle.frame.specs.Frame.{detection_or, step_or, tracked_view};
 ghost use Rattle.matching.specs.Associate.{four_of};
 ghost use Rattle.views.specs.Views.{two_of, views_of};
@@ -112,7 +112,7 @@ pub fn all(s: Settings, count: usize, table: [Tracked; 64]) -> Views
     requires { (count ≤ 64) × (s.delta_t ≤ 8) }
     ensures { result ≡ views_of (map (tracked_view s) (take count table)) }
 {
-    let nan = detections::nan();
+    let nan = objects::nan();
     let mut boxes = [nan; 256];
     let mut directions = [nan; 128];
     let mut lasts = [nan; 256];

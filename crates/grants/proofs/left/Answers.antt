@@ -6,8 +6,8 @@ use lib.IntN.{pos}
 use lib.ListN.{length, get_or}
 use mir.Syntax.{w64}
 use mir.ValLaws.{to_z-of_z}
-use Rattle.detections.specs.declared.Dets.{Dets}
-use Rattle.detections.proofs.Pushing.{dets-count}
+use Rattle.objects.specs.declared.Dets.{Dets}
+use Rattle.objects.proofs.Pushing.{dets-count}
 use Rattle.grants.proofs.Known.{cells-long}
 use Rattle.grants.proofs.Leaving.{few, turn, done}
 use Rattle.grants.proofs.left.Goals as goal

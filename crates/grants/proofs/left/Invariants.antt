@@ -4,7 +4,7 @@ use mathlib.Core.List.{List}
 use Prim.Native.Nat.{◌-◌, ◌≤◌}
 use lib.ListN.{length}
 use Rattle.frame.specs.Objects.{Obj}
-use Rattle.detections.specs.Dets.{dets_of}
+use Rattle.objects.specs.Dets.{dets_of}
 use Rattle.grants.proofs.Leaving.{left_to}
 use Rattle.grants.proofs.left.Given as goal
 

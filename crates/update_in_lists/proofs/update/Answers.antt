@@ -4,7 +4,7 @@ use mathlib.Core.Path.{sym, ap, subst, ◌∙◌}
 use Prim.Native.Nat.{ℕ, ◌≤◌}
 use native.Mathlib.Omega.{arith}
 use lib.ListN.{length-replicate}
-use Rattle.image.specs.Image.{decode_tracker}
+use Rattle.image.specs.Image.{thaw_tracker}
 use Rattle.views.specs.declared.Views.{Views}
 use Rattle.frame_in_lists.proofs.Testing.{bad-totals}
 use Rattle.frame_in_lists.proofs.Looking.{looked-first, looked-count, looked-delta, looked-few, looked-long, looked-failed, looked-left, looked-taken}
@@ -148,7 +148,7 @@ detection_at-d-requires c =
     omega (arith, bearing-long l, bearing-room l, c.loop-b-test.true)
 
 pub overflow_add-issued : goal.overflow_add-issued
-unfolding decode_tracker
+unfolding thaw_tracker
 overflow_add-issued c = omega (arith, bearing-ids c.loop-b.invariant, c.loop-b-test.true)
 
 pub overflow_add-table : goal.overflow_add-table
@@ -167,7 +167,7 @@ pub loop-b-smaller : goal.loop-b-smaller
 loop-b-smaller c = omega (arith, c.loop-b-test.true)
 
 pub loop-b-preserved : goal.loop-b-preserved
-unfolding decode_tracker
+unfolding thaw_tracker
 loop-b-preserved c = bearing-turn c.loop-b.invariant c.loop-b-test.true c.detection_at-d.ensures c.birth-e.ensures
 
 pub overflow_add-live : goal.overflow_add-live
@@ -183,7 +183,7 @@ pub bounds-table-r : goal.bounds-table-r
 bounds-table-r c = omega (arith, telling-live c.loop-r.invariant, c.loop-r.invariant.reached, c.loop-r-test.true)
 
 pub overflow_add-frames : goal.overflow_add-frames
-unfolding decode_tracker
+unfolding thaw_tracker
 overflow_add-frames c = omega (arith, (is-clear c.loop-r.invariant.paired.on).not-over)
 
 pub tell-reported-requires : goal.tell-reported-requires
@@ -196,15 +196,15 @@ pub loop-r-smaller : goal.loop-r-smaller
 loop-r-smaller c = omega (arith, c.loop-r-test.true)
 
 pub loop-r-preserved : goal.loop-r-preserved
-unfolding decode_tracker
+unfolding thaw_tracker
 loop-r-preserved c = telling-turn c.loop-r.invariant _ c.loop-r-test.true c.tell-reported.ensures c.put_track.ensures
 
 pub overflow_add-issued-2 : goal.overflow_add-issued-2
-unfolding decode_tracker
+unfolding thaw_tracker
 overflow_add-issued-2 c = omega (arith, bearing-ids c.loop-b.invariant)
 
 pub overflow_add-frames-2 : goal.overflow_add-frames-2
-unfolding decode_tracker
+unfolding thaw_tracker
 overflow_add-frames-2 c = omega (arith, (is-clear c.loop-r.invariant.paired.on).not-over)
 
 pub close-requires : goal.close-requires

@@ -5,7 +5,7 @@ use native.Mathlib.Omega.{arith}
 use lib.ListN.{length}
 use Rattle.frame.specs.Rounds.{View}
 use Rattle.frame.specs.Frame.{tracked_view}
-use Rattle.detections.specs.Dets.{five_of}
+use Rattle.objects.specs.Dets.{five_of}
 use Rattle.matching.specs.Associate.{four_of}
 use Rattle.views.specs.Views.{two_of, views_of}
 use Rattle.views.proofs.Seeing.{seen, seen-count, filled-long, turn}

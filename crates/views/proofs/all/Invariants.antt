@@ -4,8 +4,8 @@ use Prim.Native.Nat.{◌-◌, ◌≤◌}
 use Rattle.frame.specs.Rounds.{View}
 use Rattle.frame.specs.Frame.{tracked_view}
 use Rattle.lists.specs.Lists.{flat}
-use Rattle.detections.specs.Cells.{padded}
-use Rattle.detections.specs.Dets.{five_of}
+use Rattle.objects.specs.Cells.{padded}
+use Rattle.objects.specs.Dets.{five_of}
 use Rattle.matching.specs.Associate.{four_of}
 use Rattle.views.specs.Views.{two_of}
 use Rattle.views.proofs.Seeing.{seen}

@@ -7,7 +7,7 @@ use Rattle.object.specs.declared.Corners.{Corners}
 use Rattle.object.specs.declared.Detection.{Detection}
 use Rattle.object.specs.Object.{corners_of}
 use Rattle.frame.specs.Frame.{detection_or, view_of}
-use Rattle.detections.specs.Dets.{five_of}
+use Rattle.objects.specs.Dets.{five_of}
 use Rattle.matching.specs.Associate.{four_of}
 use Rattle.views.proofs.put_view.Goals as goal
 

@@ -1,8 +1,0 @@
--- `detections::is_first` meets its contract.
-use mathlib.Core.Path.{refl}
-use Rattle.frame.specs.Objects.{first_score}
-use Rattle.detections.proofs.is_first.Goals as goal
-
-pub returns : goal.returns
-unfolding first_score
-returns c = refl

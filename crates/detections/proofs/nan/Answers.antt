@@ -1,8 +1,0 @@
--- `detections::nan` meets its contract.
-use mathlib.Core.Path.{refl}
-use lib.Ieee.{div, of_bits}
-use Rattle.detections.proofs.nan.Goals as goal
-
-pub returns : goal.returns
-unfolding div of_bits
-returns c = refl

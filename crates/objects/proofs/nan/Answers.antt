@@ -1,0 +1,8 @@
+-- `objects::nan` meets its contract.
+use mathlib.Core.Path.{refl}
+use lib.Ieee.{div, of_bits}
+use Rattle.objects.proofs.nan.Goals as goal
+
+pub returns : goal.returns
+unfolding div of_bits
+returns c = refl

@@ -1,5 +1,0 @@
--- `satinjacks::satinjacks_assign` meets its contract.
-use Rattle.satinjacks.proofs.satinjacks_assign.Goals as goal
-
-pub returns : goal.returns
-returns c = (_, (c.told.ensures, c.lapjv-solved.ensures))

@@ -1,5 +1,0 @@
--- `satinjacks::satinjacks_assign_whole` meets its contract.
-use Rattle.satinjacks.proofs.satinjacks_assign_whole.Goals as goal
-
-pub returns : goal.returns
-returns c = (_, (c.told.ensures, c.lapint.ensures))
