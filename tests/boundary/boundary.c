@@ -1,6 +1,6 @@
 /*
  * The exported calls on anything, each frame held against the plain form of
- * the same call (`satinjacks_update_by_value`, crate check_by_value), which is
+ * the same call (`satinjacks_update_by_value`, crate by_value), which is
  * proved against the same contract and converts the whole image both ways.
  *
  *     boundary CALLS SEED
