@@ -6,8 +6,10 @@
  *
  * No call allocates, keeps a pointer or has state of its own: the tracker is
  * the SatinjacksTracker that the caller holds. Copy, store or send its bytes
- * as you like; calls on different trackers may run at the same time. A frame
- * needs up to 146 KiB of stack, making a tracker up to 94 KiB.
+ * as you like; calls on different trackers may run at the same time. A tracker
+ * that a version before document 02's 2.5 stored may be refused with 1: README,
+ * 'What a host must know', says how to mend it. A frame needs up to 157 KiB of
+ * stack, making a tracker up to 49 KiB.
  *
  * Every pointer is aligned for its type and not null, also that of an empty
  * slice. Where it is followed by a length, the length counts elements, and the
@@ -46,7 +48,7 @@ extern "C" {
 /* Why a call was turned away; 0 where it was not. Numbers will be added: take any but 0 for a refusal. */
 enum {
     SATINJACKS_ACCEPTED = 0,
-    SATINJACKS_UNSOUND_STATE = 1, /* a state rule broken, or a tag neither 0 nor 1 */
+    SATINJACKS_UNSOUND_STATE = 1, /* the image breaks a state rule, or a tag in it is neither 0 nor 1 */
     SATINJACKS_BAD_SETTING = 2,   /* a setting is outside its range */
     SATINJACKS_RAGGED_FRAME = 3,  /* the input's length is no multiple of 5 */
     SATINJACKS_CROWDED_FRAME = 4, /* more than 64 objects */
