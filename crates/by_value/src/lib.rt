@@ -1,4 +1,4 @@
-// The exported frame call in its plain form, behind the symbol of crate `by_value`: the whole image is converted there and back. tests/boundary holds `satinjacks_update_lists` against it.
+// The exported frame call in its plain form, behind the symbol of crate `by_value_c`: the whole image is converted there and back. tests/boundary holds `satinjacks_update_lists` against it.
 #![tactic(auto)]
 
 ghost use Rattle.update_in_lists.specs.Host.{Hosted};

@@ -1,4 +1,4 @@
-// What C and Rust link, behind the symbols of crate `host`: the tracker's calls over the image of a state, which the caller holds in three lists of numbers.
+// What C and Rust link, behind the symbols of crate `host_c`: the tracker's calls over the image of a state, which the caller holds in three lists of numbers.
 #![tactic(auto)]
 
 ghost use Rattle.std.specs.Prelude.{◌≡◌};
