@@ -1,152 +1,121 @@
 // Association of detections with tracks: assoc.rs, document 01, item 3, and the later rounds' matching of item 6.
-// Objects are lent as five numbers each (corners and score), boxes as four, directions as two (dy, dx). Overlaps are lent row after row, an object each.
 #![tactic(auto)]
 
-ghost use Rattle.std.specs.Prelude.{◌≡◌, ◌++◌, ◌-◌, ◌*◌, ◌≤◌, length, replicate};
+ghost use Rattle.std.specs.Prelude.{◌≡◌, ◌++◌, ◌-◌, ◌*◌, ◌≤◌, replicate};
 ghost use Rattle.std.specs.Float.{binary32};
 ghost use Rattle.std.specs.Float.Ieee.{add};
 ghost use Rattle.lapjv_walk.specs.Marks.{free};
 ghost use Rattle.matching.specs.Matching.{assigned, match_or_lapjv};
-ghost use Rattle.matching.specs.Associate.{det_at, corners_at, step_at, overlaps, angle_term, associate, reassociate};
-ghost use Rattle.matching.specs.Cells.{entry_at};
+ghost use Rattle.matching.specs.Associate.{overlaps, angle_term, associate, reassociate};
 ghost use Rattle.matching.specs.Split.{Round};
+ghost use Rattle.matching.specs.Lent.{det_of, box_of, step_of, matrix_of};
 
 use assign::assigned;
 use batch::{iou_batch, speed_direction_batch};
-use matching::{Marks, unmarked};
+use matching::{Boxes, Detections, Grid, Marks, Motions, unmarked};
 use shortcut::{is_shortcut, shortcut_marks, some_above};
 use threshold::{kept_at_or_above, kept_unless_below};
 
-// The assignment on overlap plus angle term, which a lent list takes up.
-fn assigned_combined(
+// The assignment on overlap plus angle term, for at most CELLS pairs.
+fn assigned_combined<const CELLS: usize>(
     inertia: f32,
-    dets: &[f32],
-    nd: usize,
-    directions: &[f32],
-    previous: &[f32],
-    nt: usize,
-    iou: &[f32],
-    combined: &mut [f32],
+    dets: Detections,
+    tracks: Motions,
+    iou: Grid,
 ) -> Marks
-    requires { (nd ≤ 64) × (nt ≤ 64) × (nd * 5 ≤ length dets.now) × (nt * 2 ≤ length directions.now) × (nt * 5 ≤ length previous.now) × (nd * nt ≤ length iou.now) × (nd * nt ≤ length combined.old) }
-    ensures { result.at ≡ assigned nd nt (λ i j. add binary32 (entry_at nt iou.now i j) (angle_term inertia (det_at dets.now i) (step_at directions.now j) (det_at previous.now j))) ++ replicate (64 - nd) free }
+    requires objects { iou.objects ≡ dets.n }
+    requires tracks { iou.tracks ≡ tracks.previous.n }
+    requires room { (iou.objects * iou.tracks ≤ CELLS) × (CELLS ≤ 4096) }
+    ensures { result.at ≡ assigned iou.entry.objects iou.entry.tracks (λ i j. add binary32 (matrix_of iou.entry i j) (angle_term inertia (det_of dets.entry i) (step_of tracks.entry j) (det_of tracks.entry.previous j))) ++ replicate (64 - iou.entry.objects) free }
 {
-    speed_direction_batch(inertia, dets, nd, directions, previous, nt, iou, combined);
-    assigned(combined, nd, nt)
+    let mut combined = [0.0f32; CELLS];
+    speed_direction_batch(inertia, dets, tracks, iou, &mut combined);
+    assigned(Grid {
+        cells: &combined,
+        objects: iou.objects,
+        tracks: iou.tracks,
+    })
 }
 
 // The shortcut's pairs, else the assignment's; angles are only worked out for the latter. No track, no pair.
-pub fn match_or_lapjv(
-    thr: f32,
-    inertia: f32,
-    dets: &[f32],
-    nd: usize,
-    directions: &[f32],
-    previous: &[f32],
-    nt: usize,
-    iou: &[f32],
-) -> Marks
-    requires { (nd ≤ 64) × (nt ≤ 64) × (nd * 5 ≤ length dets.now) × (nt * 2 ≤ length directions.now) × (nt * 5 ≤ length previous.now) × (nd * nt ≤ length iou.now) }
-    ensures { result.at ≡ match_or_lapjv nd nt thr (entry_at nt iou.now) (λ i j. add binary32 (entry_at nt iou.now i j) (angle_term inertia (det_at dets.now i) (step_at directions.now j) (det_at previous.now j))) ++ replicate (64 - nd) free }
+pub fn match_or_lapjv(thr: f32, inertia: f32, dets: Detections, tracks: Motions, iou: Grid) -> Marks
+    requires objects { iou.objects ≡ dets.n }
+    requires tracks { iou.tracks ≡ tracks.previous.n }
+    ensures { result.at ≡ match_or_lapjv iou.entry.objects iou.entry.tracks thr (matrix_of iou.entry) (λ i j. add binary32 (matrix_of iou.entry i j) (angle_term inertia (det_of dets.entry i) (step_of tracks.entry j) (det_of tracks.entry.previous j))) ++ replicate (64 - iou.entry.objects) free }
 {
-    if nt == 0 {
-        return unmarked();
+    if iou.tracks == 0 {
+        unmarked()
+    } else if is_shortcut(iou, thr) {
+        shortcut_marks(iou, thr)
+    } else if iou.objects * iou.tracks <= 256 {
+        // Few pairs, few cells to zero.
+        assigned_combined::<256>(inertia, dets, tracks, iou)
+    } else {
+        assigned_combined::<4096>(inertia, dets, tracks, iou)
     }
-    if is_shortcut(iou, nd, nt, thr) {
-        return shortcut_marks(iou, nd, nt, thr);
-    }
-    if nd * nt <= 256 {
-        let mut few = [0.0f32; 256];
-        return assigned_combined(inertia, dets, nd, directions, previous, nt, iou, &mut few);
-    }
-    let mut combined = [0.0f32; 4096];
-    assigned_combined(
-        inertia,
-        dets,
-        nd,
-        directions,
-        previous,
-        nt,
-        iou,
-        &mut combined,
-    )
 }
 
-// `associate` in a lent list for the overlaps.
-fn associate_in(
+// `associate` of at most CELLS pairs.
+fn associate_in<const CELLS: usize>(
     thr: f32,
     inertia: f32,
-    dets: &[f32],
-    nd: usize,
-    boxes: &[f32],
-    directions: &[f32],
-    previous: &[f32],
-    nt: usize,
-    iou: &mut [f32],
+    dets: Detections,
+    boxes: Boxes,
+    tracks: Motions,
 ) -> Marks
-    requires { (nd ≤ 64) × (nt ≤ 64) × (nd * 5 ≤ length dets.now) × (nt * 4 ≤ length boxes.now) × (nt * 2 ≤ length directions.now) × (nt * 5 ≤ length previous.now) × (nd * nt ≤ length iou.old) }
-    ensures { Round nd nt thr (overlaps (det_at dets.now) (corners_at boxes.now)) (associate thr inertia nd nt (det_at dets.now) (corners_at boxes.now) (step_at directions.now) (det_at previous.now)) result.at }
+    requires tracks { boxes.n ≡ tracks.previous.n }
+    requires room { (dets.n * boxes.n ≤ CELLS) × (CELLS ≤ 4096) }
+    ensures { Round dets.entry.n boxes.entry.n thr (overlaps (det_of dets.entry) (box_of boxes.entry)) (associate thr inertia dets.entry.n boxes.entry.n (det_of dets.entry) (box_of boxes.entry) (step_of tracks.entry) (det_of tracks.entry.previous)) result.at }
 {
-    iou_batch(dets, nd, boxes, nt, iou);
-    let marks = match_or_lapjv(thr, inertia, dets, nd, directions, previous, nt, iou);
-    kept_unless_below(marks, iou, nd, nt, thr)
+    let mut cells = [0.0f32; CELLS];
+    iou_batch(dets, boxes, &mut cells);
+    let iou = Grid {
+        cells: &cells,
+        objects: dets.n,
+        tracks: boxes.n,
+    };
+    let marks = match_or_lapjv(thr, inertia, dets, tracks, iou);
+    kept_unless_below(marks, iou, thr)
 }
 
 // The first round: predicted boxes, directions and previous boxes of the tracks.
-pub fn associate(
-    thr: f32,
-    inertia: f32,
-    dets: &[f32],
-    nd: usize,
-    boxes: &[f32],
-    directions: &[f32],
-    previous: &[f32],
-    nt: usize,
-) -> Marks
-    requires { (nd ≤ 64) × (nt ≤ 64) × (nd * 5 ≤ length dets.now) × (nt * 4 ≤ length boxes.now) × (nt * 2 ≤ length directions.now) × (nt * 5 ≤ length previous.now) }
-    ensures { Round nd nt thr (overlaps (det_at dets.now) (corners_at boxes.now)) (associate thr inertia nd nt (det_at dets.now) (corners_at boxes.now) (step_at directions.now) (det_at previous.now)) result.at }
+pub fn associate(thr: f32, inertia: f32, dets: Detections, boxes: Boxes, tracks: Motions) -> Marks
+    requires { boxes.n ≡ tracks.previous.n }
+    ensures { Round dets.entry.n boxes.entry.n thr (overlaps (det_of dets.entry) (box_of boxes.entry)) (associate thr inertia dets.entry.n boxes.entry.n (det_of dets.entry) (box_of boxes.entry) (step_of tracks.entry) (det_of tracks.entry.previous)) result.at }
 {
-    if nd * nt <= 256 {
-        let mut few = [0.0f32; 256];
-        return associate_in(
-            thr, inertia, dets, nd, boxes, directions, previous, nt, &mut few,
-        );
+    if dets.n * boxes.n <= 256 {
+        associate_in::<256>(thr, inertia, dets, boxes, tracks)
+    } else {
+        associate_in::<4096>(thr, inertia, dets, boxes, tracks)
     }
-    let mut iou = [0.0f32; 4096];
-    associate_in(
-        thr, inertia, dets, nd, boxes, directions, previous, nt, &mut iou,
-    )
 }
 
-// `simple_iou_match` in a lent list for the overlaps.
-fn simple_iou_match_in(
-    thr: f32,
-    dets: &[f32],
-    nd: usize,
-    boxes: &[f32],
-    nt: usize,
-    iou: &mut [f32],
-) -> Marks
-    requires { (nd ≤ 64) × (nt ≤ 64) × (nd * 5 ≤ length dets.now) × (nt * 4 ≤ length boxes.now) × (nd * nt ≤ length iou.old) }
-    ensures { Round nd nt thr (overlaps (det_at dets.now) (corners_at boxes.now)) (reassociate thr nd nt (det_at dets.now) (corners_at boxes.now)) result.at }
+// `simple_iou_match` of at most CELLS pairs.
+fn simple_iou_match_in<const CELLS: usize>(thr: f32, dets: Detections, boxes: Boxes) -> Marks
+    requires { (dets.n * boxes.n ≤ CELLS) × (CELLS ≤ 4096) }
+    ensures { Round dets.entry.n boxes.entry.n thr (overlaps (det_of dets.entry) (box_of boxes.entry)) (reassociate thr dets.entry.n boxes.entry.n (det_of dets.entry) (box_of boxes.entry)) result.at }
 {
-    iou_batch(dets, nd, boxes, nt, iou);
-    if !some_above(iou, nd, nt, thr) {
+    let mut cells = [0.0f32; CELLS];
+    iou_batch(dets, boxes, &mut cells);
+    let iou = Grid {
+        cells: &cells,
+        objects: dets.n,
+        tracks: boxes.n,
+    };
+    if !some_above(iou, thr) {
         return unmarked();
     }
-    let marks = assigned(iou, nd, nt);
-    kept_at_or_above(marks, iou, nd, nt, thr)
+    let marks = assigned(iou);
+    kept_at_or_above(marks, iou, thr)
 }
 
 // A later round: it starts only if some overlap is above the threshold.
-pub fn simple_iou_match(thr: f32, dets: &[f32], nd: usize, boxes: &[f32], nt: usize) -> Marks
-    requires { (nd ≤ 64) × (nt ≤ 64) × (nd * 5 ≤ length dets.now) × (nt * 4 ≤ length boxes.now) }
-    ensures { Round nd nt thr (overlaps (det_at dets.now) (corners_at boxes.now)) (reassociate thr nd nt (det_at dets.now) (corners_at boxes.now)) result.at }
+pub fn simple_iou_match(thr: f32, dets: Detections, boxes: Boxes) -> Marks
+    ensures { Round dets.entry.n boxes.entry.n thr (overlaps (det_of dets.entry) (box_of boxes.entry)) (reassociate thr dets.entry.n boxes.entry.n (det_of dets.entry) (box_of boxes.entry)) result.at }
 {
-    if nd * nt <= 256 {
-        let mut few = [0.0f32; 256];
-        return simple_iou_match_in(thr, dets, nd, boxes, nt, &mut few);
+    if dets.n * boxes.n <= 256 {
+        simple_iou_match_in::<256>(thr, dets, boxes)
+    } else {
+        simple_iou_match_in::<4096>(thr, dets, boxes)
     }
-    let mut iou = [0.0f32; 4096];
-    simple_iou_match_in(thr, dets, nd, boxes, nt, &mut iou)
 }

@@ -8,87 +8,80 @@ ghost use Rattle.lists.specs.Lists.{tab};
 ghost use Rattle.pair.specs.Overlap.{overlap_of};
 ghost use Rattle.pair.specs.Angle.{unit_of, angle_of, cosine_of, mask_of, term_of};
 ghost use Rattle.matching.specs.Passes.{centre_x, centre_y, Centred};
-ghost use Rattle.matching.specs.Associate.{angle_term, det_at, corners_at, step_at, overlaps};
-ghost use Rattle.matching.specs.Cells.{overlap_cells, entry_at};
+ghost use Rattle.matching.specs.Associate.{angle_term, overlaps};
+ghost use Rattle.matching.specs.Cells.{overlap_cells};
+ghost use Rattle.matching.specs.Lent.{det_of, box_of, step_of, matrix_of};
 
-use matching::{corners, corners_at, detection_at};
+use matching::{Boxes, Detections, Grid, Motions, fill};
 use object::{Corners, Detection};
 use pair::{angle, centre, cosine, mask, overlap, term};
 
-// The overlaps of one object and all boxes; cells past them stay.
-fn overlap_row(d: Corners, boxes: &[f32], nt: usize, out: &mut [f32])
-    requires { (nt ≤ 64) × ((nt * 4 ≤ length boxes.now) × (nt ≤ length out.old)) }
-    ensures { out.new ≡ tab (λ j. overlap_of d (corners_at boxes.now j)) nt ++ drop nt out.old }
+// The overlaps of one object and all boxes; cells past them stay. A function of its own: so LLVM lifts more tests of d out of the loop.
+fn overlap_row(d: Corners, boxes: Boxes, out: &mut [f32])
+    requires { boxes.n ≤ length out.old }
+    ensures { out.new ≡ tab (λ j. overlap_of d (box_of boxes.entry j)) boxes.entry.n ++ drop boxes.entry.n out.old }
 {
-    let mut j = 0;
-    while j < nt {
-        out[j] = overlap(d, corners_at(boxes, j));
-        j += 1;
-    }
+    fill(out, boxes.n, |j| overlap(d, boxes.get(j)));
 }
 
 // The overlaps of all objects and all boxes; cells past them stay.
-pub fn iou_batch(dets: &[f32], nd: usize, boxes: &[f32], nt: usize, out: &mut [f32])
-    requires { (nd * 5 ≤ length dets.now) × ((nt * 4 ≤ length boxes.now) × ((nd ≤ 64) × ((nt ≤ 64) × (nd * nt ≤ length out.old)))) }
-    ensures { out.new ≡ overlap_cells nd nt (overlaps (det_at dets.now) (corners_at boxes.now)) ++ drop (nd * nt) out.old }
+pub fn iou_batch(dets: Detections, boxes: Boxes, out: &mut [f32])
+    requires { dets.n * boxes.n ≤ length out.old }
+    ensures { out.new ≡ overlap_cells dets.entry.n boxes.entry.n (overlaps (det_of dets.entry) (box_of boxes.entry)) ++ drop (dets.entry.n * boxes.entry.n) out.old }
 {
-    let mut i = 0;
-    while i < nd {
-        let from = i * nt;
-        let d = corners(detection_at(dets, i));
-        overlap_row(d, boxes, nt, &mut out[from..]);
-        i += 1;
+    for i in 0..dets.n {
+        let from = i * boxes.n;
+        overlap_row(Corners::from(dets.get(i)), boxes, &mut out[from..]);
     }
 }
 
-// Of the first n boxes the centres' x and y; cells past them stay.
-fn centres(cells: &[f32], n: usize, xs: &mut [f32], ys: &mut [f32])
-    requires { (n ≤ 64) × ((n * 5 ≤ length cells.now) × ((n ≤ length xs.old) × (n ≤ length ys.old))) }
-    ensures x { xs.new ≡ tab (λ j. centre_x (det_at cells.now j)) n ++ drop n xs.old }
-    ensures y { ys.new ≡ tab (λ j. centre_y (det_at cells.now j)) n ++ drop n ys.old }
+// The centres' x and y of boxes; cells past them stay.
+fn centres(boxes: Detections, xs: &mut [f32; 64], ys: &mut [f32; 64])
+    ensures x { xs.new ≡ tab (λ j. centre_x (det_of boxes.entry j)) boxes.entry.n ++ drop boxes.entry.n xs.old }
+    ensures y { ys.new ≡ tab (λ j. centre_y (det_of boxes.entry j)) boxes.entry.n ++ drop boxes.entry.n ys.old }
 {
-    let mut j = 0;
-    while j < n {
-        let d = detection_at(cells, j);
-        xs[j] = centre(d.x1, d.x2);
-        ys[j] = centre(d.y1, d.y2);
-        j += 1;
-    }
+    fill(xs, boxes.n, |j| {
+        let d = boxes.get(j);
+        centre(d.x1, d.x2)
+    });
+    fill(ys, boxes.n, |j| {
+        let d = boxes.get(j);
+        centre(d.y1, d.y2)
+    });
 }
 
 // The cosines between the tracks' directions and the steps from xs, ys to x, y; cells past them stay.
-fn cosines(x: f32, y: f32, xs: &[f32], ys: &[f32], directions: &[f32], nt: usize, out: &mut [f32])
-    requires { (nt ≤ 64) × ((nt ≤ length xs.now) × ((nt ≤ length ys.now) × ((nt * 2 ≤ length directions.now) × (nt ≤ length out.old)))) }
-    ensures { out.new ≡ tab (λ j. cosine_of (step_at directions.now j) (unit_of (sub binary32 x (get_or xs.now j nan)) (sub binary32 y (get_or ys.now j nan)))) nt ++ drop nt out.old }
+fn cosines(x: f32, y: f32, xs: &[f32; 64], ys: &[f32; 64], tracks: Motions, out: &mut [f32; 64])
+    ensures { out.new ≡ tab (λ j. cosine_of (step_of tracks.entry j) (unit_of (sub binary32 x (get_or xs.now j nan)) (sub binary32 y (get_or ys.now j nan)))) tracks.entry.previous.n ++ drop tracks.entry.previous.n out.old }
 {
-    let mut j = 0;
-    while j < nt {
+    fill(out, tracks.previous.n, |j| {
         let at = j * 2;
-        out[j] = cosine(directions[at], directions[at + 1], x - xs[j], y - ys[j]);
-        j += 1;
-    }
+        cosine(
+            tracks.directions[at],
+            tracks.directions[at + 1],
+            x - xs[j],
+            y - ys[j],
+        )
+    });
 }
 
 // Overlap plus angle term of one object, from its cosines; cells past them stay.
 fn sums(
     inertia: f32,
     score: f32,
-    previous: &[f32],
-    cosines: &[f32],
-    nt: usize,
+    previous: Detections,
+    cosines: &[f32; 64],
     iou: &[f32],
     out: &mut [f32],
 )
-    requires { (nt ≤ 64) × ((nt * 5 ≤ length previous.now) × ((nt ≤ length cosines.now) × ((nt ≤ length iou.now) × (nt ≤ length out.old)))) }
-    ensures { out.new ≡ tab (λ j. add binary32 (get_or iou.now j nan) (term_of (mask_of (det_at previous.now j).score) (angle_of (get_or cosines.now j nan)) inertia score)) nt ++ drop nt out.old }
+    requires read { previous.n ≤ length iou.now }
+    requires room { previous.n ≤ length out.old }
+    ensures { out.new ≡ tab (λ j. add binary32 (get_or iou.now j nan) (term_of (mask_of (det_of previous.entry j).score) (angle_of (get_or cosines.now j nan)) inertia score)) previous.entry.n ++ drop previous.entry.n out.old }
 {
-    let mut j = 0;
-    while j < nt {
-        let at = j * 5;
-        let p = previous[at + 4];
-        out[j] = iou[j] + term(mask(p), angle(cosines[j]), inertia, score);
-        j += 1;
-    }
+    fill(out, previous.n, |j| {
+        let p = previous.get(j).score;
+        iou[j] + term(mask(p), angle(cosines[j]), inertia, score)
+    });
 }
 
 // Overlap plus angle term of object d and all tracks, whose previous centres are xs, ys.
@@ -96,57 +89,50 @@ fn sums(
 fn combined_row(
     inertia: f32,
     d: Detection,
-    xs: &[f32],
-    ys: &[f32],
-    directions: &[f32],
-    previous: &[f32],
-    nt: usize,
+    xs: &[f32; 64],
+    ys: &[f32; 64],
+    tracks: Motions,
     iou: &[f32],
     out: &mut [f32],
 )
-    requires nt_bound { (nt ≤ 64) × ((nt ≤ length xs.now) × ((nt ≤ length ys.now) × ((nt * 2 ≤ length directions.now) × ((nt * 5 ≤ length previous.now) × ((nt ≤ length iou.now) × (nt ≤ length out.old)))))) }
-    requires centred { Centred nt (det_at previous.now) xs.now ys.now }
-    ensures { out.new ≡ tab (λ j. add binary32 (get_or iou.now j nan) (angle_term inertia d (step_at directions.now j) (det_at previous.now j))) nt ++ drop nt out.old }
+    requires centred { Centred tracks.previous.n (det_of tracks.previous) xs.now ys.now }
+    requires read { tracks.previous.n ≤ length iou.now }
+    requires room { tracks.previous.n ≤ length out.old }
+    ensures { out.new ≡ tab (λ j. add binary32 (get_or iou.now j nan) (angle_term inertia d (step_of tracks.entry j) (det_of tracks.entry.previous j))) tracks.entry.previous.n ++ drop tracks.entry.previous.n out.old }
 {
     let mut all = [0.0f32; 64];
     let x = centre(d.x1, d.x2);
     let y = centre(d.y1, d.y2);
-    cosines(x, y, xs, ys, directions, nt, &mut all);
-    sums(inertia, d.score, previous, &all, nt, iou, out);
+    cosines(x, y, xs, ys, tracks, &mut all);
+    sums(inertia, d.score, tracks.previous, &all, iou, out);
 }
 
 // Overlap plus angle term of all objects and all tracks, from the overlaps; cells past them stay.
 pub fn speed_direction_batch(
     inertia: f32,
-    dets: &[f32],
-    nd: usize,
-    directions: &[f32],
-    previous: &[f32],
-    nt: usize,
-    iou: &[f32],
+    dets: Detections,
+    tracks: Motions,
+    iou: Grid,
     out: &mut [f32],
 )
-    requires { (nd * 5 ≤ length dets.now) × ((nt * 2 ≤ length directions.now) × ((nt * 5 ≤ length previous.now) × ((nd ≤ 64) × ((nt ≤ 64) × ((nd * nt ≤ length iou.now) × (nd * nt ≤ length out.old)))))) }
-    ensures { out.new ≡ overlap_cells nd nt (λ i j. add binary32 (entry_at nt iou.now i j) (angle_term inertia (det_at dets.now i) (step_at directions.now j) (det_at previous.now j))) ++ drop (nd * nt) out.old }
+    requires objects { iou.objects ≡ dets.n }
+    requires tracks { iou.tracks ≡ tracks.previous.n }
+    requires room { iou.objects * iou.tracks ≤ length out.old }
+    ensures { out.new ≡ overlap_cells iou.entry.objects iou.entry.tracks (λ i j. add binary32 (matrix_of iou.entry i j) (angle_term inertia (det_of dets.entry i) (step_of tracks.entry j) (det_of tracks.entry.previous j))) ++ drop (iou.entry.objects * iou.entry.tracks) out.old }
 {
     let mut xs = [0.0f32; 64];
     let mut ys = [0.0f32; 64];
-    centres(previous, nt, &mut xs, &mut ys);
-    let mut i = 0;
-    while i < nd {
-        let from = i * nt;
-        let d = detection_at(dets, i);
+    centres(tracks.previous, &mut xs, &mut ys);
+    for i in 0..iou.objects {
+        let from = i * iou.tracks;
         combined_row(
             inertia,
-            d,
+            dets.get(i),
             &xs,
             &ys,
-            directions,
-            previous,
-            nt,
-            &iou[from..],
+            tracks,
+            &iou.cells[from..],
             &mut out[from..],
         );
-        i += 1;
     }
 }

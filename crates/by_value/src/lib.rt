@@ -4,6 +4,7 @@
 ghost use Rattle.update_in_lists.specs.Host.{Hosted};
 
 use image::TrackerImage;
+use object::Refusal;
 use update_in_lists::Reply;
 
 #[repr(C)]
@@ -25,29 +26,17 @@ pub fn satinjacks_update_by_value(
     if !image::is_meant(i) {
         return Stepped {
             image: i,
-            reply: Reply {
-                number: 1,
-                count: 0,
-            },
+            reply: Reply::from(Err(Refusal::UnsoundState)),
         };
     }
     let t = from_image::thaw(i);
     let answer = oc_sort_tracker::update(t, input, boxes, ids);
     let outcome = answer.outcome;
-    let number = making::told(outcome);
-    if number != 0 {
-        return Stepped {
-            image: i,
-            reply: Reply { number, count: 0 },
-        };
+    let reply = Reply::from(outcome);
+    if outcome.is_err() {
+        return Stepped { image: i, reply };
     }
     let next = answer.tracker;
     let image = to_image::freeze(next);
-    Stepped {
-        image,
-        reply: Reply {
-            number,
-            count: answer.count,
-        },
-    }
+    Stepped { image, reply }
 }

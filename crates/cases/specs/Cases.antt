@@ -1,5 +1,5 @@
 -- Document 01, 'Checks at the edges': the cases marked P, one list, with document 02's of costs read. Definitions only.
-use Rattle.std.specs.Prelude.{◌≡◌, false, List, [], ◌∷◌, ℕ, pos, Float}
+use Rattle.std.specs.Prelude.{◌≡◌, false, List, [], ◌∷◌, ℕ, pos, Float, Some}
 use Rattle.std.specs.Float.{nan, binary64}
 use Rattle.std.specs.Float.Ieee.{of_bits}
 use Rattle.ieee.specs.Ops.{f32}
@@ -9,9 +9,8 @@ use Rattle.lapjv_walk.specs.Lapjv.{lapjv}
 use Rattle.lapjv_walk.specs.Reads.{lapjv_reads}
 use Rattle.pair.specs.Overlap.{overlap_of}
 use Rattle.pair.specs.Angle.{angle_of}
-use Rattle.strack.specs.declared.Direction.TheVariants.{Known}
+use Rattle.strack.specs.declared.Direction.{Direction}
 use Rattle.strack.specs.Boxes.{measure_of, box_of, direction_of}
-use Rattle.strack.specs.Track.{seen_of}
 use Rattle.history.specs.Uncut.{Dated, oldest_box}
 use Rattle.frame.specs.declared.Settings.{Settings}
 use Rattle.frame.specs.declared.Tracker.{Tracker}
@@ -51,6 +50,9 @@ n64 = f32 0x4280_0000
 abbrev corners : Float → Float → Float → Float → Corners
 corners a b c d = record { x1 = a; y1 = b; x2 = c; y2 = d }
 
+abbrev heading : Float → Float → Direction
+heading dy dx = record { dy = dy; dx = dx }
+
 -- some box, told apart by its score
 abbrev dated : ℕ → Float → Dated
 dated a score = record { age = a; box = record { x1 = n0; y1 = n0; x2 = n1; y2 = n1; score = score } }
@@ -82,14 +84,14 @@ Cases =
     ∷ ((measure_of (corners n0 n0 n32 n32)).r ≡ n1)
     ∷ ((measure_of (corners n0 n0 n16 n16)).r ≡ f32 0x3f7f_fffe)
     -- direction from centre 0,0 to 0,64: dy 1, dx 0; unmoved: 0, 0
-    ∷ (direction_of (corners m1 m1 n1 n1) (corners m1 (f32 0x427c_0000) n1 (f32 0x4282_0000)) ≡ Known n1 n0)
-    ∷ (direction_of (corners m1 m1 n1 n1) (corners m1 m1 n1 n1) ≡ Known n0 n0)
+    ∷ (direction_of (corners m1 m1 n1 n1) (corners m1 (f32 0x427c_0000) n1 (f32 0x4282_0000)) ≡ heading n1 n0)
+    ∷ (direction_of (corners m1 m1 n1 n1) (corners m1 m1 n1 n1) ≡ heading n0 n0)
     -- acos term: cosine 1 gives 0.5, -1 gives -0.5
     ∷ (angle_of n1 ≡ half)
     ∷ (angle_of m1 ≡ f32 0xbf00_0000)
     -- delta_t 3, age 5: boxes at ages 1 and 4 give age 4's; at 2 and 4, age 2's
-    ∷ (oldest_box (dated 4 n2 ∷ dated 1 n1 ∷ []) 5 3 ≡ seen_of (dated 4 n2).box)
-    ∷ (oldest_box (dated 4 n2 ∷ dated 2 n1 ∷ []) 5 3 ≡ seen_of (dated 2 n1).box)
+    ∷ (oldest_box (dated 4 n2 ∷ dated 1 n1 ∷ []) 5 3 ≡ Some (dated 4 n2).box)
+    ∷ (oldest_box (dated 4 n2 ∷ dated 2 n1 ∷ []) 5 3 ≡ Some (dated 2 n1).box)
     -- costs 1,2 / 2,1: rows take columns 0, 1; one NaN cost: column 0
     ∷ (let a = of_bits binary64 0x3ff0_0000_0000_0000 in let b = of_bits binary64 0x4000_0000_0000_0000 in (lapjv floats 2 (a ∷ b ∷ b ∷ a ∷ [])).x ≡ pos 0 ∷ pos 1 ∷ [])
     ∷ ((lapjv floats 1 (nan ∷ [])).x ≡ pos 0 ∷ [])

@@ -2,30 +2,31 @@
 use mathlib.Core.Path.{◌≡◌, refl, sym, ap, ap₂, subst, ◌∙◌}
 use mathlib.Core.Bool.{Bool, true}
 use mathlib.Core.List.{List, [], ◌∷◌, map}
+use Prim.Native.Nat.{ℕ}
 use contract.Lifetimes.{Lfts}
 use Rattle.lists.specs.Lists.{pick}
-use Rattle.object.specs.Refusal.{number_of}
+use Rattle.std.specs.Prelude.{Result, Ok, Err, ⊤}
+use Rattle.object.specs.declared.Refusal.{Refusal}
+use Rattle.object.specs.Refusal.{number_of, told_of}
 use Rattle.object.specs.declared.Refusal.TheVariants.{BadSetting}
 use Rattle.frame.specs.declared.Settings.{Settings}
-use Rattle.frame.specs.declared.Outcome.{Outcome}
-use Rattle.frame.specs.declared.Outcome.TheVariants.{Accepted, Refused}
 use Rattle.frame.specs.State.{in_range, empty_tracker}
 use Rattle.frame.specs.Frame.{Out, boxes_after, ids_after}
-use Rattle.frame.specs.Contract.{told_of, made_of, call_of}
+use Rattle.frame.specs.Contract.{made_of, call_of}
 use Rattle.oc_sort_tracker.specs.New.{defaults}
 use Rattle.image.specs.declared.TrackerImage.{TrackerImage}
-use Rattle.image.specs.Image.{flag_of, freeze_tracker, thaw_tracker}
+use Rattle.std.specs.Int.{from_bool}
+use Rattle.image.specs.Image.{freeze_tracker, thaw_tracker}
 use Rattle.to_image.proofs.Back.{flag-back, flag-tagged}
 use Rattle.making.specs.declared.SettingsImage.{SettingsImage}
 use Rattle.making.specs.Making.{thaw_settings, fresh_of, fresh_with, begun}
 use Rattle.update_in_lists.specs.Host.{frame_on, reply_of, Hosted}
-use Rattle.lent.specs.declared.Told.{Told}
 use Rattle.run.specs.Lent as lent-call
 use Rattle.run.specs.Run.{Event, frame, Run, lent}
 use Rattle.run.proofs.EveryRun.{no_lifetimes, no_lifetimes₄, ref, mut_ref, started, every-run}
 use Rattle.exported_run.specs.Calls.{lists_of, Shown, shown_of, Calls, made_new, made_with, called, refused_new, refused-with, seen_as, Alike, none, one_more, IsRun, Brought, brought_to, EveryList}
 use Rattle.exported_run.proofs.Shape.{empty-faithful}
-use Rattle.exported_run.proofs.Steps.{Stands, stands-for, Begun, new-begins, with-begins, refusal-keeps, stands_after, answer, framed, number-told}
+use Rattle.exported_run.proofs.Steps.{Stands, stands-for, Begun, new-begins, with-begins, refusal-keeps, stands_after, answer, framed, reply-told}
 use Rattle.exported_run.specs.WithSettings as with_settings
 use Rattle.exported_run.specs.Update as update
 
@@ -44,12 +45,9 @@ first_run q s i b k =
     record { events = []; alike = none; run = subst (Run s []) (sym st.0) (started s (subst (λ (x : Settings). in_range x ≡ true) k b.0)); stands = st.1 }
 
 module _ (s : Settings) (ys : List Shown) (i : TrackerImage) (d : Runs s ys i) (y : Shown) (h : Hosted i y.input y.boxes y.ids y.lists_left y.reply y.boxes_left y.ids_left) where
-  abbrev o : Outcome
+  -- what the call in place tells
+  abbrev o : Result ℕ Refusal
   o = (answer i d.stands y.input y.boxes y.ids y.lists_left y.reply y.boxes_left y.ids_left h).outcome
-
-  -- the call in place that tells the same
-  abbrev told : Told
-  told = record { outcome = o; count = y.reply.count }
 
   abbrev asked_in : lent-call.Dens no_lifetimes₄
   asked_in = (mut_ref (thaw_tracker i), (ref y.input, (mut_ref y.boxes, (mut_ref y.ids, tt))))
@@ -60,8 +58,8 @@ module _ (s : Settings) (ys : List Shown) (i : TrackerImage) (d : Runs s ys i) (
   next-run : Runs s (y ∷ ys) y.lists_left
   next-run = record {
     events = frame (seen_as o y) ∷ d.events;
-    alike = one_more d.alike y o (number-told i d.stands y.input y.boxes y.ids y.lists_left y.reply y.boxes_left y.ids_left h);
-    run = lent d.run no_lifetimes₄ asked_in told gone-in (framed i d.stands y.input y.boxes y.ids y.lists_left y.reply y.boxes_left y.ids_left h) refl;
+    alike = one_more d.alike y o (reply-told i d.stands y.input y.boxes y.ids y.lists_left y.reply y.boxes_left y.ids_left h);
+    run = lent d.run no_lifetimes₄ asked_in o gone-in (framed i d.stands y.input y.boxes y.ids y.lists_left y.reply y.boxes_left y.ids_left h) refl;
     stands = stands_after i d.stands y.input y.boxes y.ids y.lists_left y.reply y.boxes_left y.ids_left h;
   }
 
@@ -95,7 +93,7 @@ module _ (s : Settings) where
     max_age = s.max_age;
     min_hits = s.min_hits;
     delta_t = s.delta_t;
-    use_byte = flag_of s.use_byte;
+    use_byte = from_bool s.use_byte;
   }
 
   passed-back : thaw_settings passed ≡ s
@@ -111,7 +109,7 @@ module _ (s : Settings) where
 
   told_none : in_range s ≡ true → (fresh_with passed).number ≡ 0
   unfolding fresh_with fresh_of made_of
-  told_none fine = ap₂ (λ (x y : Bool). pick x (told_of (pick y Accepted (Refused BadSetting))) (number_of BadSetting)) (flag-tagged s.use_byte) (ap in_range passed-back ∙ fine)
+  told_none fine = ap₂ (λ (x y : Bool). pick x (told_of {T = ⊤} (pick y (Ok tt) (Err BadSetting))) (number_of BadSetting)) (flag-tagged s.use_byte) (ap in_range passed-back ∙ fine)
 
   -- lists of the right lengths, and what the making call leaves of them
   abbrev at-hand : TrackerImage

@@ -1,7 +1,7 @@
 -- A frame leaves the lists of a state as long as their types say, so the image of the state that it leaves is faithful. Assumes nothing.
+use Rattle.std.specs.Prelude.{Option, Some, None}
 use mathlib.Core.Path.{◌≡◌, refl}
 use mathlib.Core.Bool.{Bool, true, false}
-use mathlib.Core.Option.{Option, none, some}
 use mathlib.Core.List.{List, [], ◌∷◌, ◌++◌, map}
 use Prim.Native.Nat.{ℕ, zero, suc, ◌+◌, ◌-◌, ◌≤◌}
 use native.Mathlib.Omega.{arith}
@@ -19,14 +19,9 @@ use Rattle.object.specs.declared.Detection.{Detection}
 use Rattle.object.specs.declared.Refusal.{Refusal}
 use Rattle.object.specs.declared.Refusal.TheVariants.{UnsoundState, FullTable}
 use Rattle.object.specs.Object.{corners_of}
-use Rattle.strack.specs.declared.LastBox.{LastBox}
-use Rattle.strack.specs.declared.LastBox.TheVariants.{Unseen}
-use Rattle.strack.specs.declared.ListBox.{ListBox}
-use Rattle.strack.specs.declared.ListBox.TheVariants.{Empty, Holds}
-use Rattle.strack.specs.declared.Kept.{Kept}
 use Rattle.strack.specs.declared.Track.{Track}
 use Rattle.strack.specs.Boxes.{measure_of}
-use Rattle.strack.specs.Track.{no_filter, seen_of, shifted, birth_of, area_held, track_predict, regained, filter_after, track_box, saved_after, freezes, track_miss}
+use Rattle.strack.specs.Track.{no_filter, shifted, birth_of, area_held, track_predict, regained, filter_after, track_box, saved_after, freezes, track_miss}
 use Rattle.frame.specs.declared.Settings.{Settings}
 use Rattle.frame.specs.declared.Tracked.{Tracked}
 use Rattle.frame.specs.declared.Tracker.{Tracker}
@@ -38,7 +33,7 @@ use Rattle.frame.proofs.Promises.{refused-reports}
 use Rattle.frame.proofs.Rising.{with_born, given}
 use Rattle.frame.proofs.StaysSound.{left-few}
 use Rattle.image.specs.declared.TrackerImage.{TrackerImage}
-use Rattle.image.specs.Image.{filter_floats, box_floats, list_floats, direction_floats, kept_tag, kept_floats, Cell, freeze_track, thaw_track, cells, count_in, thaw_tracker, Faithful}
+use Rattle.image.specs.Image.{filter_floats, box_floats, list_floats, direction_floats, tag_of, Cell, freeze_track, thaw_track, cells, count_in, thaw_tracker, Faithful}
 use Rattle.to_image.proofs.Putting.{box-long, list-long, direction-long, boxes-long}
 use Rattle.to_image.proofs.Filling.{Full, all_weaker, all_replicate}
 use Rattle.to_image.proofs.Back.{Shaped, faithful}
@@ -68,9 +63,9 @@ replayed-long : (gap : ℕ) (z₁ z₂ : DetectBox) (f : Filter) → Long (repla
 unfolding replay_of
 replayed-long gap z₁ z₂ f = updated-long z₂ (virtuals (virtual_of gap z₁ z₂) gap 1 f)
 
-regained-long : (l : ListBox) (gap : ℕ) (z : DetectBox) (f : Filter) → Long (regained l gap z f)
-regained-long Empty gap z f = updated-long z f
-regained-long (Holds z₁) gap z f = replayed-long gap z₁ z f
+regained-long : (l : Option DetectBox) (gap : ℕ) (z : DetectBox) (f : Filter) → Long (regained l gap z f)
+regained-long None gap z f = updated-long z f
+regained-long (Some z₁) gap z f = replayed-long gap z₁ z f
 
 after-long : (b : Bool) (t : Track) (z : DetectBox) → Long (filter_after b t z)
 after-long false t z = updated-long z t.filter
@@ -82,7 +77,7 @@ saved-long false t f s = s
 
 -- ---- a track
 
-shifted-long : (l : LastBox) (ks : List Kept) → length ks ≡ 8 → length (shifted l ks) ≡ 8
+shifted-long : (l : Option Detection) (ks : List (Option Detection)) → length ks ≡ 8 → length (shifted l ks) ≡ 8
 shifted-long l ks h = omega (arith, length-take-le 7 ks (omega (arith, h)))
 
 shaped_of : (id : ℕ) (t : Track) → Long t.filter → Long t.saved → length t.kept ≡ 8 → Shaped (record { id = id; track = t })
@@ -106,19 +101,19 @@ predicted-shaped e h = shaped_of e.id (track_predict e.track) (predicted-long (a
 
 given-shaped : (dt : ℕ) (g : Option Grant) (e : Tracked) → Shaped e → Shaped (with_track e (give dt g e.track))
 unfolding track_miss track_box
-given-shaped dt none e h =
+given-shaped dt None e h =
     let t : Track = e.track in
-    shaped_of e.id (track_miss t) (h.x, h.p) (saved-long (freezes t) t (h.x, h.p) (h.xs, h.ps)) (shifted-long Unseen t.kept h.kept)
-given-shaped dt (some g) e h =
+    shaped_of e.id (track_miss t) (h.x, h.p) (saved-long (freezes t) t (h.x, h.p) (h.xs, h.ps)) (shifted-long None t.kept h.kept)
+given-shaped dt (Some g) e h =
     let t : Track = e.track in
-    shaped_of e.id (track_box dt g.obj.det t) (after-long t.frozen t (measure_of (corners_of g.obj.det))) none-long (shifted-long (seen_of g.obj.det) t.kept h.kept)
+    shaped_of e.id (track_box dt g.obj.det t) (after-long t.frozen t (measure_of (corners_of g.obj.det))) none-long (shifted-long (Some g.obj.det) t.kept h.kept)
 
 -- its numbers fill its cell
 full-of : (e : Tracked) → Shaped e → Full e
 unfolding freeze_track
 full-of e h =
     let t : Track = e.track in
-    let d : List Float = direction_floats t.direction ++ flat kept_floats t.kept in
+    let d : List Float = direction_floats t.direction ++ flat box_floats t.kept in
     let l : List Float = list_floats t.list ++ d in
     let b : List Float = box_floats t.last ++ l in
     let s : List Float = filter_floats t.saved ++ b in (
@@ -134,14 +129,14 @@ full-of e h =
         h.ps,
         length-append (box_floats t.last) l,
         length-append (list_floats t.list) d,
-        length-append (direction_floats t.direction) (flat kept_floats t.kept),
+        length-append (direction_floats t.direction) (flat box_floats t.kept),
         box-long t.last,
         list-long t.list,
         direction-long t.direction,
         boxes-long t.kept,
         h.kept,
       ),
-      omega (arith, length-map t.kept kept_tag, h.kept),
+      omega (arith, length-map t.kept tag_of, h.kept),
     )
 
 -- ---- a state
@@ -199,8 +194,8 @@ module _ (t : Tracker) (c : Call) (shaped : All Shaped (live t)) (rs : List Repo
   -- the state that an accepted frame leaves
   pub next-faithful : (frame_of t c).reply ≡ reports rs → Faithful (frame_of t c).next
   unfolding frame_of
-  next-faithful = go (pick (state_rules t) (early t.frames c) (some UnsoundState))
+  next-faithful = go (pick (state_rules t) (early t.frames c) (Some UnsoundState))
     where
       go : (r : Option Refusal) → (frame_at t c r).reply ≡ reports rs → Faithful (frame_at t c r).next
-      go (some r) e = refused-reports r rs e
-      go none e = let w : Work = rounds_over t.settings (predicted_tracks (live t)) c.input in settled-faithful w (is_full (predicted_tracks (live t)) w) refl e
+      go (Some r) e = refused-reports r rs e
+      go None e = let w : Work = rounds_over t.settings (predicted_tracks (live t)) c.input in settled-faithful w (is_full (predicted_tracks (live t)) w) refl e

@@ -6,19 +6,18 @@ use Prim.Native.Nat.{ℕ}
 use native.Mathlib.Omega.{arith}
 use lib.Dec.{eqb}
 use lib.Ieee.{Float}
-use lib.ListN.{length}
 use borrow.Author.Tests.{ne_eqb}
 use Rattle.lists.specs.Lists.{pick}
-use Rattle.object.specs.Refusal.{number_of}
+use Rattle.std.specs.Prelude.{Ok, Err, ⊤}
+use Rattle.object.specs.Refusal.{number_of, told_of}
 use Rattle.object.specs.declared.Refusal.TheVariants.{BadSetting}
 use Rattle.frame.specs.declared.Settings.{Settings}
 use Rattle.frame.specs.declared.Tracker.{Tracker}
-use Rattle.frame.specs.declared.Outcome.TheVariants.{Accepted, Refused}
 use Rattle.frame.specs.declared.Answer.{Answer}
 use Rattle.frame.specs.State.{in_range, empty_tracker}
 use Rattle.frame.specs.Frame as one-frame
 use Rattle.frame.specs.Frame.{Call, Out, refused, reports, frame_of, boxes_after, ids_after}
-use Rattle.frame.specs.Contract.{told_of, number_in, made_of, outcome_of, reports_in, call_of, Framed}
+use Rattle.frame.specs.Contract.{made_of, outcome_of, call_of, Framed}
 use Rattle.frame.proofs.Promises.{promised}
 use Rattle.frame.proofs.Contract.{framed-by}
 use Rattle.image.specs.declared.TrackerImage.{TrackerImage}
@@ -26,7 +25,8 @@ use Rattle.image.specs.Image.{tagged, freeze_tracker, thaw_tracker, meant, Faith
 use Rattle.making.specs.declared.SettingsImage.{SettingsImage}
 use Rattle.making.specs.Making.{thaw_settings, Fresh, fresh_of, fresh_with, begun}
 use Rattle.update_in_lists.specs.declared.Reply.{Reply}
-use Rattle.update_in_lists.specs.Host.{image_after, frame_by, frame_on, Hosted}
+use Rattle.update_in_lists.specs.Host.{image_after, frame_by, frame_on, telling, reply_of, Hosted}
+use Rattle.update_in_lists.proofs.Hosting.{told-as}
 use Rattle.exported_run.proofs.Shape.{live-shaped, next-faithful}
 
 -- the lists mean something, and are the image of what they stand for
@@ -41,7 +41,7 @@ stands-for i t f e =
 
 -- ---- making
 
-told-fine : (b : Bool) → 0 ≡ told_of (pick b Accepted (Refused BadSetting)) → b ≡ true
+told-fine : (b : Bool) → 0 ≡ told_of {T = ⊤} (pick b (Ok tt) (Err BadSetting)) → b ≡ true
 told-fine true e = refl
 told-fine false e = absurd (omega (arith, e))
 
@@ -60,7 +60,7 @@ new-begins q i i' z e = (told-fine (in_range q) z, e ∙ ap (λ (k : ℕ). pick 
 pub with-begins : (q : SettingsImage) (i i' : TrackerImage) → 0 ≡ (fresh_with q).number → i' ≡ begun i (fresh_with q) → Begun (thaw_settings q) i'
 unfolding fresh_with fresh_of made_of
 with-begins q i i' z e = (
-  told-fine (in_range (thaw_settings q)) (tag-fine (tagged q.use_byte) (told_of (pick (in_range (thaw_settings q)) Accepted (Refused BadSetting))) z),
+  told-fine (in_range (thaw_settings q)) (tag-fine (tagged q.use_byte) (told_of {T = ⊤} (pick (in_range (thaw_settings q)) (Ok tt) (Err BadSetting))) z),
   e ∙ ap (λ (k : ℕ). pick (eqb k 0) (freeze_tracker (empty_tracker (thaw_settings q))) i) (sym z),
 )
 
@@ -101,15 +101,14 @@ module _ (i : TrackerImage) (st : Stands i) (input boxes : List Float) (ids : Li
 
     -- what a caller of the lent call would have been told
     abbrev pub answer : Answer
-    answer = record { outcome = outcome_of out.reply; count = r.count; tracker = thaw_tracker i' }
+    answer = record { outcome = outcome_of out.reply; tracker = thaw_tracker i' }
 
     pub framed : Framed (thaw_tracker i) input boxes ids answer boxes' ids'
     framed =
         framed-by (thaw_tracker i) input boxes ids answer boxes' ids' refl
-        (ap (λ (x : Reply). x.count) h.reply ∙ ap (λ (x : one-frame.Reply). length (reports_in x)) reply-is)
         lists-after.0
         (h.boxes-after ∙ ap (λ (x : one-frame.Reply). boxes_after x boxes) reply-is)
         (h.ids-after ∙ ap (λ (x : one-frame.Reply). ids_after x ids) reply-is)
 
-    pub number-told : told_of answer.outcome ≡ r.number
-    number-told = framed.number ∙ sym (ap number_in reply-is) ∙ sym (ap (λ (x : Reply). x.number) h.reply)
+    pub reply-told : telling answer.outcome ≡ r
+    reply-told = told-as out.reply ∙ sym (ap reply_of reply-is) ∙ sym h.reply

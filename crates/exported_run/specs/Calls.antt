@@ -1,5 +1,5 @@
 -- Demand 3 for what C and Rust link: lists of exported calls, and the claim that each is a run. Definitions only.
-use Rattle.std.specs.Prelude.{◌≡◌, true, List, [], ◌∷◌, map, ℕ, Float}
+use Rattle.std.specs.Prelude.{◌≡◌, true, List, [], ◌∷◌, map, ℕ, Float, Result}
 use contract.Lifetimes.{Lfts}
 use Rattle.std.specs.Borrow.{MutBor}
 use Rattle.update_in_lists.specs.declared.Reply.{Reply}
@@ -8,9 +8,9 @@ use Rattle.image.specs.declared.TrackerImage.{TrackerImage}
 use Rattle.image.specs.Image.{image_of, freeze_tracker, thaw_tracker, meant}
 use Rattle.oc_sort_tracker.specs.New.{defaults}
 use Rattle.frame.specs.declared.Settings.{Settings}
-use Rattle.frame.specs.declared.Outcome.{Outcome}
+use Rattle.object.specs.declared.Refusal.{Refusal}
+use Rattle.update_in_lists.specs.Host.{telling}
 use Rattle.frame.specs.State.{in_range}
-use Rattle.frame.specs.Contract.{told_of}
 use Rattle.run.specs.Run.{Seen, Event, frame, Run, book_of, Holds}
 use Rattle.exported_run.specs.New as new
 use Rattle.exported_run.specs.WithSettings as with_settings
@@ -56,21 +56,21 @@ pub data Calls (s : Settings) : List Shown → TrackerImage → Type 0 where
 -- ---- the same as a run
 
 -- a frame as a run has it: in place, with the outcome o; its tracker is the state that the lists left stand for
-abbrev pub seen_as : Outcome → Shown → Seen
+abbrev pub seen_as : Result ℕ Refusal → Shown → Seen
 seen_as o y = record {
   in_place = true;
   input = y.input;
   boxes = y.boxes;
   ids = y.ids;
-  answer = record { outcome = o; count = y.reply.count; tracker = thaw_tracker y.lists_left };
+  answer = record { outcome = o; tracker = thaw_tracker y.lists_left };
   boxes_left = y.boxes_left;
   ids_left = y.ids_left;
 }
 
--- exported calls and the events of a run, one for one: a call's outcome is the one whose number it was told, 0 where accepted
+-- exported calls and the events of a run, one for one: a call's outcome is the one whose number and count it was told, 0 where accepted and how many reports
 pub data Alike : List Shown → List Event → Type 0 where
   none : Alike [] []
-  one_more : {ys : List Shown} {xs : List Event} → Alike ys xs → (y : Shown) (o : Outcome) → told_of o ≡ y.reply.number → Alike (y ∷ ys) (frame (seen_as o y) ∷ xs)
+  one_more : {ys : List Shown} {xs : List Event} → Alike ys xs → (y : Shown) (o : Result ℕ Refusal) → telling o ≡ y.reply → Alike (y ∷ ys) (frame (seen_as o y) ∷ xs)
 
 -- ---- the claim
 

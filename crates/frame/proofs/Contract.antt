@@ -8,18 +8,20 @@ use native.Mathlib.Omega.{arith}
 use lib.Ieee.{Float, nan}
 use lib.ListN.{length, get_or, drop}
 use lib.Seq.{ext_get_or}
+use Rattle.std.specs.Prelude.{Result, Ok, Err, ⊤}
+use Rattle.std.specs.Result.{result_unwrap_or}
 use Rattle.lists.specs.Lists.{pick, tab}
 use Rattle.lists.proofs.Tab.{length-tab, get_or-tab}
 use Rattle.object.specs.declared.Refusal.TheVariants.{BadSetting}
-use Rattle.object.specs.Refusal.{number_of}
+use Rattle.object.specs.declared.Refusal.{Refusal}
+use Rattle.object.specs.Refusal.{number_of, told_of}
 use Rattle.frame.specs.declared.Settings.{Settings}
 use Rattle.frame.specs.declared.Tracker.{Tracker}
 use Rattle.frame.specs.declared.Answer.{Answer}
 use Rattle.frame.specs.declared.Made.{Made}
-use Rattle.frame.specs.declared.Outcome.TheVariants.{Accepted, Refused}
 use Rattle.frame.specs.State.{in_range}
 use Rattle.frame.specs.Frame.{Report, Reply, refused, reports, frame_of, box_cells, id_cells, boxes_after, ids_after}
-use Rattle.frame.specs.Contract.{told_of, number_in, made_of, MadeBy, outcome_of, reports_in, report_at, call_of, Framed}
+use Rattle.frame.specs.Contract.{number_in, made_of, MadeBy, outcome_of, reports_in, report_at, call_of, Framed}
 use Rattle.frame.proofs.Promises.{promised}
 
 -- ---- making a tracker
@@ -28,7 +30,7 @@ pub made_by : (s : Settings) (r : Made) → r ≡ made_of s → MadeBy s r
 unfolding made_of
 made_by s r e = record { made = e; number = ap (λ (m : Made). told_of m.outcome) e ∙ go (in_range s) }
   where
-    go : (b : Bool) → told_of (pick b Accepted (Refused BadSetting)) ≡ pick b 0 (number_of BadSetting)
+    go : (b : Bool) → told_of {T = ⊤} (pick b (Ok tt) (Err BadSetting)) ≡ pick b 0 (number_of BadSetting)
     go true = refl
     go false = refl
 
@@ -64,18 +66,25 @@ told-number : (reply : Reply) → told_of (outcome_of reply) ≡ number_in reply
 told-number (refused r) = refl
 told-number (reports rs) = refl
 
+counted : (reply : Reply) → result_unwrap_or (outcome_of reply) 0 ≡ length (reports_in reply)
+counted (refused r) = refl
+counted (reports rs) = refl
+
 module _ (t : Tracker) (input boxes : List Float) (ids : List ℕ) (r : Answer) (boxes' : List Float) (ids' : List ℕ) where
   abbrev reply : Reply
   reply = (frame_of t (call_of input boxes ids)).reply
 
-  pub framed-by : r.outcome ≡ outcome_of reply → r.count ≡ length (reports_in reply) → r.tracker ≡ (frame_of t (call_of input boxes ids)).next → boxes' ≡ boxes_after reply boxes → ids' ≡ ids_after reply ids → Framed t input boxes ids r boxes' ids'
-  framed-by o c n b i = record {
+  count-by : r.outcome ≡ outcome_of reply → result_unwrap_or r.outcome 0 ≡ length (reports_in reply)
+  count-by o = ap (λ (x : Result ℕ Refusal). result_unwrap_or x 0) o ∙ counted reply
+
+  pub framed-by : r.outcome ≡ outcome_of reply → r.tracker ≡ (frame_of t (call_of input boxes ids)).next → boxes' ≡ boxes_after reply boxes → ids' ≡ ids_after reply ids → Framed t input boxes ids r boxes' ids'
+  framed-by o n b i = record {
     outcome = o;
     number = ap told_of o ∙ told-number reply;
-    count = c;
+    count = count-by o;
     next = n;
     boxes-after = b;
     ids-after = i;
-    reports_read = rw (b, i, c) (read_back reply boxes ids);
+    reports_read = rw (b, i, count-by o) (read_back reply boxes ids);
     promises = promised t (call_of input boxes ids);
   }

@@ -1,7 +1,7 @@
 -- What a frame promises beside its definition: of reported and live ids, of what is issued and counted, and of the state rules. Assumes nothing.
+use Rattle.std.specs.Prelude.{Option, Some, None}
 use mathlib.Core.Path.{◌≡◌, refl, sym, ap, subst, ◌∙◌}
 use mathlib.Core.Bool.{Bool, true, false, ◌&&◌, ◌||◌}
-use mathlib.Core.Option.{Option, none, some}
 use mathlib.Core.List.{List, [], ◌∷◌, ◌++◌, map, append-nil, Memᴰ}
 use Prim.Native.Nat.{ℕ, suc, ◌+◌, ◌-◌, ◌≤◌, ◌<◌}
 use native.Mathlib.Omega.{arith}
@@ -157,11 +157,11 @@ unfolding frame_of
 promised t c = go (state_rules t) refl
   where
     at : state_rules t ≡ true → (r : Option Refusal) → early t.frames c ≡ r → Promises t (frame_at t c r).reply (frame_at t c r).next
-    at h (some r) e = kept-all t r
-    at h none e =
+    at h (Some r) e = kept-all t r
+    at h None e =
         let w : Work = rounds_over t.settings (predicted_tracks (live t)) c.input in
         settled-promises t h (clear t.frames c e).not-over w (is_full (predicted_tracks (live t)) w) refl
 
-    go : (b : Bool) → state_rules t ≡ b → Promises t (frame_at t c (pick b (early t.frames c) (some UnsoundState))).reply (frame_at t c (pick b (early t.frames c) (some UnsoundState))).next
+    go : (b : Bool) → state_rules t ≡ b → Promises t (frame_at t c (pick b (early t.frames c) (Some UnsoundState))).reply (frame_at t c (pick b (early t.frames c) (Some UnsoundState))).next
     go true h = at h (early t.frames c) refl
     go false h = kept-all t UnsoundState

@@ -1,7 +1,7 @@
 -- What the state rules say, and what the rows before the rounds leave, each by its name. Assumes nothing.
+use Rattle.std.specs.Prelude.{Option, Some, None}
 use mathlib.Core.Path.{◌≡◌, refl}
 use mathlib.Core.Bool.{Bool, true, false, not, ◌&&◌, ◌||◌}
-use mathlib.Core.Option.{Option, none, some}
 use Prim.Native.Nat.{ℕ, ◌*◌, ◌%◌, ◌≤◌, ◌<◌}
 use native.Mathlib.Omega.{arith}
 use lib.Dec.{leb, ltb, eqb}
@@ -97,7 +97,7 @@ pub record Clear (frames : ℕ) (c : Call) : Type 0 where
   pub ids : 64 ≤ c.ids
   pub not-over : frames < 1000000
 
-some-none : {A : Type 0} (r : Refusal) → ◌≡◌ {A = Option Refusal} (some r) none → A
+some-none : {A : Type 0} (r : Refusal) → ◌≡◌ {A = Option Refusal} (Some r) None → A
 some-none r e = absurd (let z : ◌≡◌ {A = ℕ} 0 1 = cc in omega arith)
 
 or_left : (a b : Bool) → (a || b) ≡ false → a ≡ false
@@ -109,12 +109,12 @@ or_right true true e = e
 or_right true false e = refl
 or_right false b e = e
 
-pub clear : (frames : ℕ) (c : Call) → early frames c ≡ none → Clear frames c
+pub clear : (frames : ℕ) (c : Call) → early frames c ≡ None → Clear frames c
 unfolding early
 clear frames c h = go (not (eqb (length c.input % 5) 0)) (ltb 320 (length c.input)) refl (ltb c.boxes 256 || ltb c.ids 64) refl (leb 1000000 frames) refl h
   where
     go : (x y : Bool) → ltb 320 (length c.input) ≡ y → (z : Bool) → (ltb c.boxes 256 || ltb c.ids 64) ≡ z → (v : Bool) → leb 1000000 frames ≡ v
-        → pick x (some RaggedFrame) (pick y (some CrowdedFrame) (pick z (some ShortAnswer) (pick v (some RunOver) none))) ≡ none → Clear frames c
+        → pick x (Some RaggedFrame) (pick y (Some CrowdedFrame) (pick z (Some ShortAnswer) (pick v (Some RunOver) None))) ≡ None → Clear frames c
     go true y e₁ z e₂ v e₃ e = some-none RaggedFrame e
     go false true e₁ z e₂ v e₃ e = some-none CrowdedFrame e
     go false false e₁ true e₂ v e₃ e = some-none ShortAnswer e

@@ -1,6 +1,6 @@
 -- A round by marks: no object is lost or doubled, a grant is never taken back, views stay, and each grant passed its test. Assumes nothing.
+use Rattle.std.specs.Prelude.{Option, Some, None}
 use mathlib.Core.Path.{◌≡◌, refl, sym, ap, subst, ◌∙◌}
-use mathlib.Core.Option.{Option, none, some}
 use mathlib.Core.List.{List, [], ◌∷◌, map}
 use mathlib.Core.Logic.{◌≢◌}
 use Prim.Native.Nat.{ℕ, ◌+◌, ◌≤◌, ◌<◌}
@@ -27,7 +27,7 @@ module _ (ok : Obj → View → Type 0) where
   Seats [] os ss = Unit {0}
   Seats (m ∷ ms) [] ss = Unit {0}
   Seats (negsuc n ∷ ms) (o ∷ os) ss = Seats ms os ss
-  Seats (pos t ∷ ms) (o ∷ os) ss = (t < length ss) × ((slot_at ss t).got ≡ none) × ok o (slot_at ss t).view × Unnamed t ms × Seats ms os ss
+  Seats (pos t ∷ ms) (o ∷ os) ss = (t < length ss) × ((slot_at ss t).got ≡ None) × ok o (slot_at ss t).view × Unnamed t ms × Seats ms os ss
 
   -- a slot that none of them names may change
   seats-set : (ms : List ℤ) (os : List Obj) (ss : List Slot) (t : ℕ) (a : Slot) → Unnamed t ms → Seats ms os ss → Seats ms os (set ss t a)
@@ -77,8 +77,8 @@ rounds-length s vs os =
 
 module _ (ok : ℕ → Obj → View → Type 0) where
   abbrev pub Passed : View → Option Grant → Type 0
-  Passed v none = Unit {0}
-  Passed v (some g) = ok g.round g.obj v
+  Passed v None = Unit {0}
+  Passed v (Some g) = ok g.round g.obj v
 
   abbrev pub Fairly : Slot → Type 0
   Fairly a = Passed a.view a.got
@@ -88,15 +88,15 @@ module _ (ok : ℕ → Obj → View → Type 0) where
   seat-fairly k (m ∷ ms) [] ss h f = f
   seat-fairly k (negsuc n ∷ ms) (o ∷ os) ss h f = seat-fairly k ms os ss h f
   seat-fairly k (pos t ∷ ms) (o ∷ os) ss h f =
-      let a : Slot = record { view = (slot_at ss t).view; got = some (record { round = k; obj = o }) } in
+      let a : Slot = record { view = (slot_at ss t).view; got = Some (record { round = k; obj = o }) } in
       seat-fairly k ms os (set ss t a) (seats-set (ok k) ms os ss t a h.3 h.4) (all_set Fairly ss t a f h.2)
 
 -- ---- any weight on objects is conserved
 
 module _ (f : Obj → ℕ) where
   abbrev pub got-weight : Option Grant → ℕ
-  got-weight none = 0
-  got-weight (some g) = f g.obj
+  got-weight None = 0
+  got-weight (Some g) = f g.obj
 
   abbrev pub slot-weight : Slot → ℕ
   slot-weight a = got-weight a.got
@@ -110,7 +110,7 @@ module _ (f : Obj → ℕ) where
     seat-weight (m ∷ ms) [] ss h = refl
     seat-weight (negsuc n ∷ ms) (o ∷ os) ss h = omega (arith, seat-weight ms os ss h)
     seat-weight (pos t ∷ ms) (o ∷ os) ss h =
-        let a : Slot = record { view = (slot_at ss t).view; got = some (record { round = k; obj = o }) } in
+        let a : Slot = record { view = (slot_at ss t).view; got = Some (record { round = k; obj = o }) } in
         let z : slot-weight (slot_at ss t) ≡ 0 = ap got-weight h.1 in
         omega (arith, seat-weight ms os (set ss t a) (seats-set ok ms os ss t a h.3 h.4), sum-set slot-weight ss t a no_slot h.0 z)
 
@@ -120,7 +120,7 @@ module _ (f : Obj → ℕ) where
     seat-keeps (m ∷ ms) [] ss h = omega arith
     seat-keeps (negsuc n ∷ ms) (o ∷ os) ss h = seat-keeps ms os ss h
     seat-keeps (pos t ∷ ms) (o ∷ os) ss h =
-        let a : Slot = record { view = (slot_at ss t).view; got = some (record { round = k; obj = o }) } in
+        let a : Slot = record { view = (slot_at ss t).view; got = Some (record { round = k; obj = o }) } in
         let z : slot-weight (slot_at ss t) ≡ 0 = ap got-weight h.1 in
         omega (arith, seat-keeps ms os (set ss t a) (seats-set ok ms os ss t a h.3 h.4), sum-set slot-weight ss t a no_slot h.0 z)
 
@@ -128,8 +128,8 @@ module _ (f : Obj → ℕ) where
 
 module _ (P : Obj → Type 0) where
   abbrev pub Got : Option Grant → Type 0
-  Got none = Unit {0}
-  Got (some g) = P g.obj
+  Got None = Unit {0}
+  Got (Some g) = P g.obj
 
   abbrev pub GotSlot : Slot → Type 0
   GotSlot a = Got a.got

@@ -1,27 +1,21 @@
 -- What the calls promise: the answer, the next state and every cell of both buffers. Definitions only.
-use Rattle.std.specs.Prelude.{◌≡◌, true, ℕ, suc, ◌+◌, ◌-◌, ◌*◌, ◌≤◌, ◌<◌, Float, length, get_or}
+use Rattle.std.specs.Prelude.{◌≡◌, true, ℕ, suc, ◌+◌, ◌-◌, ◌*◌, ◌≤◌, ◌<◌, Float, length, get_or, Result, Ok, Err}
 use mathlib.Core.List.{List, [], ◌∷◌, ◌++◌, map, Memᴰ}
 use Rattle.std.specs.Float.{nan}
+use Rattle.std.specs.Result.{result_unwrap_or}
 use Rattle.lists.specs.Lists.{pick, tab, up_from, All}
 use Rattle.object.specs.declared.Refusal.{Refusal}
 use Rattle.object.specs.declared.Refusal.TheVariants.{BadSetting}
-use Rattle.object.specs.Refusal.{number_of}
+use Rattle.object.specs.Refusal.{number_of, told_of}
 use Rattle.frame.specs.declared.Settings.{Settings}
 use Rattle.frame.specs.declared.Tracked.{Tracked}
 use Rattle.frame.specs.declared.Tracker.{Tracker}
-use Rattle.frame.specs.declared.Outcome.{Outcome}
-use Rattle.frame.specs.declared.Outcome.TheVariants.{Accepted, Refused}
 use Rattle.frame.specs.declared.Answer.{Answer}
 use Rattle.frame.specs.declared.Made.{Made}
 use Rattle.frame.specs.State.{in_range, live, empty_tracker, state_rules}
 use Rattle.frame.specs.Frame.{Call, Report, Reply, refused, reports, frame_of, boxes_after, ids_after}
 
 -- ---- the number that a call is told
-
--- 0 where nothing is refused
-abbrev pub told_of : Outcome → ℕ
-told_of Accepted = 0
-told_of (Refused r) = number_of r
 
 -- document 01's number of a reply, 0 where the frame is accepted
 abbrev pub number_in : Reply → ℕ
@@ -32,7 +26,7 @@ number_in (reports rs) = 0
 
 -- a setting outside its range is refused; the tracker then still holds the settings, so that every frame on it gets 1
 unfoldable pub made_of : Settings → Made
-made_of s = record { outcome = pick (in_range s) Accepted (Refused BadSetting); tracker = empty_tracker s }
+made_of s = record { outcome = pick (in_range s) (Ok tt) (Err BadSetting); tracker = empty_tracker s }
 
 -- a call with settings s made r
 pub record MadeBy (s : Settings) (r : Made) : Type 0 where
@@ -42,9 +36,10 @@ pub record MadeBy (s : Settings) (r : Made) : Type 0 where
 
 -- ---- a frame
 
-abbrev pub outcome_of : Reply → Outcome
-outcome_of (refused r) = Refused r
-outcome_of (reports rs) = Accepted
+-- how many reports there are, or the refusal
+abbrev pub outcome_of : Reply → Result ℕ Refusal
+outcome_of (refused r) = Err r
+outcome_of (reports rs) = Ok (length rs)
 
 abbrev pub reports_in : Reply → List Report
 reports_in (refused r) = []
@@ -100,10 +95,11 @@ pub record Framed (t : Tracker) (input boxes : List Float) (ids : List ℕ) (r :
   pub outcome : r.outcome ≡ outcome_of (frame_of t (call_of input boxes ids)).reply
   -- the number in document 01's table, 0 where accepted
   pub number : told_of r.outcome ≡ number_in (frame_of t (call_of input boxes ids)).reply
-  pub count : r.count ≡ length (reports_in (frame_of t (call_of input boxes ids)).reply)
+  -- how many reports stand in the buffers: none of a refused frame
+  pub count : result_unwrap_or r.outcome 0 ≡ length (reports_in (frame_of t (call_of input boxes ids)).reply)
   pub next : r.tracker ≡ (frame_of t (call_of input boxes ids)).next
   pub boxes-after : boxes' ≡ boxes_after (frame_of t (call_of input boxes ids)).reply boxes
   pub ids-after : ids' ≡ ids_after (frame_of t (call_of input boxes ids)).reply ids
   -- each report's rectangle and id are those in the buffers
-  pub reports_read : reports_in (frame_of t (call_of input boxes ids)).reply ≡ tab (report_at boxes' ids') r.count
+  pub reports_read : reports_in (frame_of t (call_of input boxes ids)).reply ≡ tab (report_at boxes' ids') (result_unwrap_or r.outcome 0)
   pub promises : Promises t (frame_of t (call_of input boxes ids)).reply (frame_of t (call_of input boxes ids)).next

@@ -1,6 +1,6 @@
 -- Document 01, item 6 and 'What a call may be told': one frame. Definitions only.
-use Rattle.std.specs.Prelude.{Bool, true, false, not, ◌&&◌, ◌||◌, List, [], ◌∷◌, ◌++◌, map, ℕ, suc, ◌+◌, ◌*◌, ◌%◌, leb, ltb, eqb, Float, length, drop}
-use Rattle.std.proofs.Math.Option.{Option, none, some}
+use Rattle.std.specs.Prelude.{Bool, true, false, not, ◌&&◌, ◌||◌, List, [], ◌∷◌, ◌++◌, map, ℕ, suc, ◌+◌, ◌*◌, ◌%◌, leb, ltb, eqb, Float, length, drop, Option, Some, None}
+use Rattle.std.specs.Option.{unwrap_or}
 use Rattle.std.specs.Float.Ieee.{is_nan}
 use Rattle.ieee.specs.Ops.{f32}
 use Rattle.lists.specs.Lists.{pick, keep}
@@ -11,10 +11,7 @@ use Rattle.object.specs.Object.{corners_of, rect_of}
 use Rattle.object.specs.declared.Refusal.{Refusal}
 use Rattle.object.specs.declared.Refusal.TheVariants.{UnsoundState, RaggedFrame, CrowdedFrame, ShortAnswer, RunOver, FullTable}
 use Rattle.pair.specs.Angle.{Step}
-use Rattle.strack.specs.declared.LastBox.{LastBox}
-use Rattle.strack.specs.declared.LastBox.TheVariants.{Unseen, Seen}
 use Rattle.strack.specs.declared.Direction.{Direction}
-use Rattle.strack.specs.declared.Direction.TheVariants.{Unknown, Known}
 use Rattle.strack.specs.declared.Track.{Track}
 use Rattle.strack.specs.Track.{birth_of, track_predict, track_box, track_miss, state_box, k_previous_of}
 use Rattle.frame.specs.declared.Settings.{Settings}
@@ -53,8 +50,8 @@ pub record Test : Type 0 where
 
 -- the first that fails
 abbrev pub first_of : List Test → Option Refusal
-first_of [] = none
-first_of (t ∷ ts) = pick t.fails (some t.refusal) (first_of ts)
+first_of [] = None
+first_of (t ∷ ts) = pick t.fails (Some t.refusal) (first_of ts)
 
 abbrev test : Bool → Refusal → Test
 test b r = record { fails = b; refusal = r }
@@ -93,20 +90,17 @@ predicted_tracks es = keep unbroken (map predict_tracked es)
 abbrev pub placeholder : Detection
 placeholder = let m = f32 0xbf80_0000 in record { x1 = m; y1 = m; x2 = m; y2 = m; score = m }
 
-abbrev pub detection_or : LastBox → Detection
-detection_or Unseen = placeholder
-detection_or (Seen x1 y1 x2 y2 score) = record { x1 = x1; y1 = y1; x2 = x2; y2 = y2; score = score }
-
-abbrev pub step_or : Direction → Step
-step_or Unknown = record { dy = f32 0; dx = f32 0 }
-step_or (Known dy dx) = record { dy = dy; dx = dx }
+-- 0, 0 for an unknown direction
+abbrev pub step_or : Option Direction → Step
+step_or None = record { dy = f32 0; dx = f32 0 }
+step_or (Some d) = record { dy = d.dy; dx = d.dx }
 
 unfoldable pub view_of : ℕ → Track → View
 view_of dt t = record {
   box = state_box t.filter;
   direction = step_or t.direction;
-  last = corners_of (detection_or t.last);
-  previous = detection_or (k_previous_of dt t);
+  last = corners_of (unwrap_or t.last placeholder);
+  previous = unwrap_or (k_previous_of dt t) placeholder;
 }
 
 abbrev pub tracked_view : Settings → Tracked → View
@@ -115,8 +109,8 @@ tracked_view s e = view_of s.delta_t e.track
 -- ---- grants, misses, births
 
 abbrev pub give : ℕ → Option Grant → Track → Track
-give dt none t = track_miss t
-give dt (some g) t = track_box dt g.obj.det t
+give dt None t = track_miss t
+give dt (Some g) t = track_box dt g.obj.det t
 
 abbrev pub give_all : ℕ → List Tracked → List Slot → List Tracked
 give_all dt [] ss = []
@@ -131,9 +125,9 @@ births id (o ∷ os) = record { id = id; track = birth_of o.det } ∷ births (su
 -- ---- reports
 
 -- from its last box, or from the filter if it has none
-abbrev pub shown_box : LastBox → Track → Corners
-shown_box Unseen t = state_box t.filter
-shown_box (Seen x1 y1 x2 y2 score) t = record { x1 = x1; y1 = y1; x2 = x2; y2 = y2 }
+abbrev pub shown_box : Option Detection → Track → Corners
+shown_box None t = state_box t.filter
+shown_box (Some d) t = corners_of d
 
 unfoldable pub report_of : Tracked → Report
 report_of e = let b = shown_box e.track.last e.track in record { rect = rect_of b.x1 b.y1 b.x2 b.y2; id = suc e.id }
@@ -182,12 +176,12 @@ accepted_frame t input =
     settled t es w (is_full es w)
 
 abbrev pub frame_at : Tracker → Call → Option Refusal → Out Tracker
-frame_at t c (some r) = record { reply = refused r; next = t }
-frame_at t c none = accepted_frame t c.input
+frame_at t c (Some r) = record { reply = refused r; next = t }
+frame_at t c None = accepted_frame t c.input
 
 -- unsound state first
 unfoldable pub frame_of : Tracker → Call → Out Tracker
-frame_of t c = frame_at t c (pick (state_rules t) (early t.frames c) (some UnsoundState))
+frame_of t c = frame_at t c (pick (state_rules t) (early t.frames c) (Some UnsoundState))
 
 -- ---- the buffers
 

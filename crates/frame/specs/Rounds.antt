@@ -1,14 +1,11 @@
 -- Document 01, item 6, in the order of document 02, 2.8: the rounds that pair objects with tracks. A slot is a track's view and what it was granted. Definitions only.
-use Rattle.std.proofs.Math.Option.{Option, none, some}
-use Rattle.std.specs.Prelude.{List, [], ◌∷◌, map, ℕ, suc, ℤ, pos, negsuc, length, get_or, set}
+use Rattle.std.specs.Prelude.{List, [], ◌∷◌, map, ℕ, suc, ℤ, pos, negsuc, length, get_or, set, Option, Some, None}
 use Rattle.std.specs.Float.{nan}
+use Rattle.std.specs.Option.{option_map}
 use Rattle.lists.specs.Lists.{pick}
 use Rattle.object.specs.declared.Corners.{Corners}
 use Rattle.object.specs.declared.Detection.{Detection}
 use Rattle.pair.specs.Angle.{Step}
-use Rattle.strack.specs.declared.LastBox.TheVariants.{Unseen}
-use Rattle.strack.specs.declared.Kept.{Kept}
-use Rattle.strack.specs.Track.{seen_of}
 use Rattle.matching.specs.Associate.{associate, reassociate}
 use Rattle.frame.specs.declared.Settings.{Settings}
 use Rattle.frame.specs.Objects.{Obj, first_class, spares}
@@ -35,7 +32,7 @@ pub record Work : Type 0 where
   pub left : List Obj
 
 abbrev pub empty_slot : View → Slot
-empty_slot v = record { view = v; got = none }
+empty_slot v = record { view = v; got = None }
 
 -- past the ends of lists; never read
 abbrev pub no_corners : Corners
@@ -67,7 +64,7 @@ slot_at ss t = get_or ss t no_slot
 -- the slot at a mark is granted the object
 abbrev pub grant_to : ℕ → ℤ → Obj → List Slot → List Slot
 grant_to k (negsuc n) o ss = ss
-grant_to k (pos t) o ss = set ss t (record { view = (slot_at ss t).view; got = some (record { round = k; obj = o }) })
+grant_to k (pos t) o ss = set ss t (record { view = (slot_at ss t).view; got = Some (record { round = k; obj = o }) })
 
 -- each object in turn goes to the slot that its mark names
 abbrev pub seat : ℕ → List ℤ → List Obj → List Slot → List Slot
@@ -89,8 +86,8 @@ left_by (m ∷ ms) (o ∷ os) = unless_taken m o (left_by ms os)
 
 -- the slots that have no grant yet, by their places
 abbrev pub unless_granted : Option Grant → ℕ → List ℕ → List ℕ
-unless_granted none j js = j ∷ js
-unless_granted (some g) j js = js
+unless_granted None j js = j ∷ js
+unless_granted (Some g) j js = js
 
 abbrev pub open_from : ℕ → List Slot → List ℕ
 open_from j [] = []
@@ -138,9 +135,8 @@ rounds s vs os =
     record { slots = (spare_round s last.slots (byte_objects s os)).slots; left = last.left }
 
 -- ---- what a slot was granted, without its place and round: a box, or none
-abbrev pub kept_of : Option Grant → Kept
-kept_of none = record { at = Unseen }
-kept_of (some g) = record { at = seen_of g.obj.det }
+abbrev pub box_granted : Option Grant → Option Detection
+box_granted got = option_map (λ (g : Grant). g.obj.det) got
 
-abbrev pub grant_of : Slot → Kept
-grant_of s = kept_of s.got
+abbrev pub grant_of : Slot → Option Detection
+grant_of s = box_granted s.got

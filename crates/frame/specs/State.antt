@@ -1,12 +1,9 @@
 -- Document 01, 'What a call may be told': settings, the state and its rules. Definitions only.
-use Rattle.std.specs.Prelude.{Bool, true, false, not, ◌&&◌, List, [], ◌∷◌, ◌++◌, ℕ, suc, ◌-◌, ◌*◌, leb, ltb, Float, length, take, replicate}
+use Rattle.std.specs.Prelude.{Bool, true, false, not, ◌&&◌, List, [], ◌∷◌, ◌++◌, ℕ, suc, ◌-◌, ◌*◌, leb, ltb, Float, length, take, replicate, None}
 use Rattle.std.specs.Float.Ieee.{is_nan, le}
 use Rattle.ieee.specs.Ops.{f32}
 use Rattle.lists.specs.Lists.{every}
-use Rattle.strack.specs.declared.LastBox.TheVariants.{Unseen}
-use Rattle.strack.specs.declared.ListBox.TheVariants.{Empty}
-use Rattle.strack.specs.declared.Direction.TheVariants.{Unknown}
-use Rattle.strack.specs.Track.{no_filter, kept_of}
+use Rattle.strack.specs.Track.{no_filter}
 use Rattle.strack.specs.Rules.{own_rules}
 use Rattle.frame.specs.declared.Settings.{Settings}
 use Rattle.frame.specs.declared.Tracked.{Tracked}
@@ -38,10 +35,10 @@ blank = record {
     age = 0;
     streak = 0;
     since = 0;
-    last = Unseen;
-    list = Empty;
-    direction = Unknown;
-    kept = replicate 8 (kept_of Unseen);
+    last = None;
+    list = None;
+    direction = None;
+    kept = replicate 8 None;
   };
 }
 

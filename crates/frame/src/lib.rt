@@ -23,6 +23,7 @@ pub struct Tracked {
 }
 
 // The whole state: the first `count` cells of the table are the live tracks, in birth order.
+// Stays: fixed memory, and the state rules speak of `count` and of every cell, whatever a caller put there.
 #[derive(Clone, Copy)]
 pub struct Tracker {
     pub settings: Settings,
@@ -32,24 +33,17 @@ pub struct Tracker {
     pub table: [Tracked; 64],
 }
 
-// What became of a call.
-#[derive(Clone, Copy)]
-pub enum Outcome {
-    Accepted,
-    Refused(Refusal),
-}
-
-// What a frame call returns: its outcome, how many reports stand in the buffers, and the state to go on with.
+// What a frame call returns: how many reports stand in the buffers, or why it was turned away; and the tracker to go on with in
+// either case. A refusal hands back the one that came.
 #[derive(Clone, Copy)]
 pub struct Answer {
-    pub outcome: Outcome,
-    pub count: usize,
+    pub outcome: Result<usize, Refusal>,
     pub tracker: Tracker,
 }
 
-// What making a tracker returns.
+// What making a tracker returns: whether its settings were taken, and a tracker that holds them in either case.
 #[derive(Clone, Copy)]
 pub struct Made {
-    pub outcome: Outcome,
+    pub outcome: Result<(), Refusal>,
     pub tracker: Tracker,
 }

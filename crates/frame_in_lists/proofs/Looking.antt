@@ -7,10 +7,14 @@ use native.Mathlib.Omega.{arith}
 use lib.Ieee.{Float, nan}
 use lib.ListN.{length, take, get_or, set, replicate, length-append, length-map, get_or-map}
 use lib.Seq.{sets}
-use Rattle.lists.specs.Lists.{put, flat}
+use Rattle.std.specs.Prelude.{Option, Some, None, Result, Ok, Err}
+use Rattle.std.specs.Bool.{then_some}
+use Rattle.lists.specs.Lists.{pick, put, flat}
 use Rattle.lists.proofs.Tab.{length-tab, get_or-tab}
 use Rattle.lists.proofs.All.{map-append}
 use Rattle.matching.specs.Associate.{four_of}
+use Rattle.object.specs.declared.Refusal.{Refusal}
+use Rattle.object.specs.declared.Refusal.TheVariants.{UnsoundState}
 use Rattle.frame.specs.declared.Settings.{Settings}
 use Rattle.frame.specs.declared.Tracked.{Tracked}
 use Rattle.frame.specs.State.{live, state_rules}
@@ -27,7 +31,7 @@ use Rattle.tracks.proofs.Table as table
 use Rattle.image.specs.declared.TrackerImage.{TrackerImage}
 use Rattle.image.specs.Image.{Cell, thaw_track, thaw_tracker, meant_track, meant, cell_at, cells, issued_in, count_in, frames_in}
 use Rattle.frame_in_lists.specs.declared.Ahead.{Ahead}
-use Rattle.frame_in_lists.specs.InPlace.{settings_in, usable_totals, AheadOf}
+use Rattle.frame_in_lists.specs.InPlace.{settings_in, usable_totals, track_in, usable_at, step_of, ahead_of}
 use Rattle.frame_in_lists.proofs.Parts.{bounds}
 use Rattle.frame_in_lists.proofs.Testing.{tracks, usable, usable-passed, usable-failed, usable-all, bad-tracks, all-usable}
 use Rattle.frame_in_lists.proofs.Turns.{Holds, holds-none, holds_more}
@@ -90,6 +94,24 @@ module _ (n : ℕ) (vs : List View) (vb vd vl vp : List Float) (e : views_by n v
         previous = push (λ (v : View). five_of v.previous) 5 (λ v. refl) 320 vs vp previous-are v n vp' c (omega (arith, h)) wrote.3 k;
       }
 
+-- ---- a track one frame ahead, or its refusal
+
+abbrev each : {A : Type 0} → Option A → List A
+each None = []
+each (Some x) = x ∷ []
+
+put-each : {A : Type 0} (b : Bool) (x : A) → put b x [] ≡ each (then_some b x)
+put-each true x = refl
+put-each false x = refl
+
+is_ahead : (b : Bool) (x : Ahead) {a : Ahead} → ◌≡◌ {A = Result Ahead Refusal} (Ok a) (pick b (Ok x) (Err UnsoundState)) → (b ≡ true) × (a ≡ x)
+is_ahead true x h = (refl, cc)
+is_ahead false x h = absurd (let z : ◌≡◌ {A = ℕ} 0 1 = cc in omega arith)
+
+not_ahead : (b : Bool) (x : Ahead) {r : Refusal} → ◌≡◌ {A = Result Ahead Refusal} (Err r) (pick b (Ok x) (Err UnsoundState)) → (b ≡ false) × (r ≡ UnsoundState)
+not_ahead true x h = absurd (let z : ◌≡◌ {A = ℕ} 0 1 = cc in omega arith)
+not_ahead false x h = (refl, cc)
+
 -- ---- the loop
 
 -- the tracks that the image stands for, the first u of them predicted, and all that are live
@@ -140,7 +162,7 @@ module _ {i : TrackerImage} {s : Settings} {w : List Tracked} {vb vd vl vp : Lis
   short : count_in i ≤ length (cells i)
   short = omega (arith, looked-count, length-tab (cell_at i) 64)
 
-  module _ {a : Ahead} (below : u < count_in i) (is : AheadOf i from u a) where
+  module _ (below : u < count_in i) where
     -- any cell, as what stands past the list
     abbrev d : Cell
     d = cell_at i 0
@@ -151,32 +173,36 @@ module _ {i : TrackerImage} {s : Settings} {w : List Tracked} {vb vd vl vp : Lis
     that : get_or (cells i) u d ≡ cell_at i u
     that = get_or-tab (cell_at i) 64 d u in_table
 
-    said : (b : Bool) → a.usable ≡ b → (meant_track (get_or (cells i) u d) && sound_at (settings_in i) (frames_in i) (issued_in i) from (thaw_track (get_or (cells i) u d))) ≡ b
-    said b t = ap (λ (c : Cell). meant_track c && sound_at (settings_in i) (frames_in i) (issued_in i) from (thaw_track c)) that ∙ sym is.tested ∙ t
+    said : (b : Bool) → usable_at i from u ≡ b → (meant_track (get_or (cells i) u d) && sound_at (settings_in i) (frames_in i) (issued_in i) from (thaw_track (get_or (cells i) u d))) ≡ b
+    said b t = ap (λ (c : Cell). meant_track c && sound_at (settings_in i) (frames_in i) (issued_in i) from (thaw_track c)) that ∙ t
 
-    pub looked-failed : a.usable ≡ false → (meant i && state_rules (thaw_tracker i)) ≡ false
-    looked-failed t = bad-tracks i (h.rest ∙ usable-failed (settings_in i) (frames_in i) (issued_in i) (cells i) (count_in i) from u d short below (said false t))
+    pub looked-failed : {r : Refusal} → Err r ≡ ahead_of i from u → (r ≡ UnsoundState) × ((meant i && state_rules (thaw_tracker i)) ≡ false)
+    looked-failed e =
+        let t = not_ahead (usable_at i from u) (step_of i u) e in
+        (t.1, bad-tracks i (h.rest ∙ usable-failed (settings_in i) (frames_in i) (issued_in i) (cells i) (count_in i) from u d short below (said false t.0)))
 
-    module _ (t : a.usable ≡ true) where
+    module _ {a : Ahead} (is : Ok a ≡ ahead_of i from u) where
+      step : (usable_at i from u ≡ true) × (a ≡ step_of i u)
+      step = is_ahead (usable_at i from u) (step_of i u) is
+
       next-rest : tracks i ≡ usable (settings_in i) (frames_in i) (issued_in i) (cells i) (count_in i) a.next (u + 1)
       next-rest =
           h.rest
-          ∙ usable-passed (settings_in i) (frames_in i) (issued_in i) (cells i) (count_in i) from u d short below (said true t)
-          ∙ ap (λ (n : ℕ). usable (settings_in i) (frames_in i) (issued_in i) (cells i) (count_in i) n (u + 1)) (ap (λ (c : Cell). (thaw_track c).id + 1) that ∙ sym (is.follows t))
+          ∙ usable-passed (settings_in i) (frames_in i) (issued_in i) (cells i) (count_in i) from u d short below (said true step.0)
+          ∙ ap (λ (n : ℕ). usable (settings_in i) (frames_in i) (issued_in i) (cells i) (count_in i) n (u + 1)) (ap (λ (c : Cell). (thaw_track c).id + 1) that ∙ sym (ap (λ (x : Ahead). x.next) step.1))
 
-      one_more : (b : Bool) → a.unbroken ≡ b → ahead_to i (u + 1) ≡ ahead_to i u ++ put b a.tracked []
+      one_more : {o : Option Tracked} → a.tracked ≡ o → ahead_to i (u + 1) ≡ ahead_to i u ++ each o
       unfolding predicted_tracks
-      one_more b q =
-          let p : predict_tracked (get_or (table_in i) u (thaw_track d)) ≡ a.tracked = ap predict_tracked (get_or-map thaw_track (cells i) u d ∙ ap thaw_track that) ∙ sym (is.predicted t) in
-          let r : unbroken a.tracked ≡ b = ap unbroken (is.predicted t) ∙ sym (is.whole t) ∙ q in
+      one_more q =
+          let p : predict_tracked (get_or (table_in i) u (thaw_track d)) ≡ predict_tracked (track_in i u) = ap predict_tracked (get_or-map thaw_track (cells i) u d ∙ ap thaw_track that) in
           table.one_more unbroken predict_tracked (table_in i) u (thaw_track d) (omega (arith, in_table, length-map (cells i) thaw_track, length-tab (cell_at i) 64))
           ∙ ap (λ (x : Tracked). table.passed unbroken predict_tracked (table_in i) u ++ put (unbroken x) x []) p
-          ∙ ap (λ (x : Bool). table.passed unbroken predict_tracked (table_in i) u ++ put x a.tracked []) r
+          ∙ ap (λ (l : List Tracked). table.passed unbroken predict_tracked (table_in i) u ++ l) (put-each (unbroken (predict_tracked (track_in i u))) (predict_tracked (track_in i u)) ∙ ap each (sym (ap (λ (x : Ahead). x.tracked) step.1) ∙ q))
 
       -- prediction broke the track
-      pub looked-left : a.unbroken ≡ false → Looked i s w vb vd vl vp a.next ahead (u + 1)
+      pub looked-left : a.tracked ≡ None → Looked i s w vb vd vl vp a.next ahead (u + 1)
       looked-left q =
-          let e : ahead_to i (u + 1) ≡ ahead_to i u = one_more false q ∙ append-nil (ahead_to i u) in
+          let e : ahead_to i (u + 1) ≡ ahead_to i u = one_more q ∙ append-nil (ahead_to i u) in
           record {
             same = h.same;
             fit = h.fit;
@@ -187,20 +213,20 @@ module _ {i : TrackerImage} {s : Settings} {w : List Tracked} {vb vd vl vp : Lis
           }
 
       -- or left it
-      pub looked-taken : {vb' vd' vl' vp' : List Float} → a.unbroken ≡ true
-          → (vb' ≡ sets vb (4 * ahead) (four_of (tracked_view s a.tracked).box)) × (vd' ≡ sets vd (2 * ahead) (two_of (tracked_view s a.tracked).direction)) × (vl' ≡ sets vl (4 * ahead) (four_of (tracked_view s a.tracked).last)) × (vp' ≡ sets vp (5 * ahead) (five_of (tracked_view s a.tracked).previous))
-          → Looked i s (set w ahead a.tracked) vb' vd' vl' vp' a.next (ahead + 1) (u + 1)
-      looked-taken {vb'} {vd'} {vl'} {vp'} q wrote =
-          let e : ahead_to i (u + 1) ≡ ahead_to i u ++ a.tracked ∷ [] = one_more true q in
+      pub looked-taken : {e : Tracked} {vb' vd' vl' vp' : List Float} → a.tracked ≡ Some e
+          → (vb' ≡ sets vb (4 * ahead) (four_of (tracked_view s e).box)) × (vd' ≡ sets vd (2 * ahead) (two_of (tracked_view s e).direction)) × (vl' ≡ sets vl (4 * ahead) (four_of (tracked_view s e).last)) × (vp' ≡ sets vp (5 * ahead) (five_of (tracked_view s e).previous))
+          → Looked i s (set w ahead e) vb' vd' vl' vp' a.next (ahead + 1) (u + 1)
+      looked-taken {e} {vb'} {vd'} {vl'} {vp'} q wrote =
+          let more : ahead_to i (u + 1) ≡ ahead_to i u ++ e ∷ [] = one_more q in
           record {
             same = h.same;
             fit = h.fit;
             rest = next-rest;
             reached = omega (arith, below);
-            holds = subst (λ (l : List Tracked). Holds l (ahead + 1) (set w ahead a.tracked)) (sym e) (holds_more (ahead_to i u) ahead w a.tracked h.holds (omega (arith, looked-few, in_table)));
-            views = views-more ahead vs vb vd vl vp h.views (tracked_view s a.tracked) vb' vd' vl' vp' (omega (arith, seen, looked-few, in_table)) wrote
-                ∙ ap views_of (sym (map-append (tracked_view s) (ahead_to i u) (a.tracked ∷ [])))
-                ∙ ap (λ (l : List Tracked). views_of (map (tracked_view s) l)) (sym e);
+            holds = subst (λ (l : List Tracked). Holds l (ahead + 1) (set w ahead e)) (sym more) (holds_more (ahead_to i u) ahead w e h.holds (omega (arith, looked-few, in_table)));
+            views = views-more ahead vs vb vd vl vp h.views (tracked_view s e) vb' vd' vl' vp' (omega (arith, seen, looked-few, in_table)) wrote
+                ∙ ap views_of (sym (map-append (tracked_view s) (ahead_to i u) (e ∷ [])))
+                ∙ ap (λ (l : List Tracked). views_of (map (tracked_view s) l)) (sym more);
           }
 
   module _ (l : count_in i ≤ u) where

@@ -6,10 +6,13 @@ use Prim.Native.Nat.{ℕ, ◌+◌, ◌*◌, ◌≤◌, ◌<◌}
 use native.Mathlib.Omega.{arith}
 use borrow.Author.Tests.{leb-true}
 use lib.Dec.{leb, ltb}
-use lib.Ieee.{Float, nan}
-use lib.ListN.{get_or, set}
+use lib.Ieee.{Float}
+use lib.ListN.{set}
+use Rattle.std.specs.Prelude.{Ok, Err}
+use Rattle.std.specs.Bool.{then_some}
 use Rattle.lists.specs.Lists.{pick}
-use Rattle.lapjv_walk.proofs.Cases.{never, and_left, and_right}
+use Rattle.object.specs.declared.Refusal.TheVariants.{UnsoundState}
+use Rattle.lapjv_walk.proofs.Cases.{and_left, and_right}
 use Rattle.frame.specs.declared.Settings.{Settings}
 use Rattle.frame.specs.declared.Tracked.{Tracked}
 use Rattle.frame.specs.State.{in_range, track_rules}
@@ -19,15 +22,11 @@ use Rattle.rules.specs.Rules.{total_rules, sound_at}
 use Rattle.rules.proofs.Sound.{id_below}
 use Rattle.reports.specs.Written.{rect_at}
 use Rattle.image.specs.declared.TrackerImage.{TrackerImage}
-use Rattle.image.specs.Image.{tagged, is_set, thaw_tracker, meant_track, cell_at, issued_in, count_in, byte_in, frames_in, Whole, Cleared}
-use Rattle.frame_in_lists.specs.InPlace.{settings_in, usable_totals, track_in, usable_at, AheadOf, ToldOf, with_totals, Closed}
+use Rattle.image.specs.Image.{tagged, meant_track, cell_at, issued_in, count_in, byte_in, frames_in, Whole, Cleared}
+use Rattle.frame_in_lists.specs.declared.Ahead.{Ahead}
+use Rattle.frame_in_lists.specs.InPlace.{settings_in, usable_totals, track_in, usable_at, step_of, ahead_of, ToldOf, with_totals, Closed}
 
 -- ---- before the loops
-
-pub same-settings : (i : TrackerImage) (s : Settings) (b : Bool)
-    → s ≡ record { det_thresh = get_or i.floats 0 nan; iou_threshold = get_or i.floats 1 nan; inertia = get_or i.floats 2 nan; max_age = get_or i.words 0 0; min_hits = get_or i.words 1 0; delta_t = get_or i.words 2 0; use_byte = b } → b ≡ is_set (byte_in i) → s ≡ settings_in i
-unfolding thaw_tracker
-same-settings i s b p e = p ∙ (λ k. record { det_thresh = get_or i.floats 0 nan; iou_threshold = get_or i.floats 1 nan; inertia = get_or i.floats 2 nan; max_age = get_or i.words 0 0; min_hits = get_or i.words 1 0; delta_t = get_or i.words 2 0; use_byte = e k })
 
 module _ (i : TrackerImage) (t : Bool) (is : t ≡ tagged (byte_in i)) where
   abbrev totals : Settings → Bool
@@ -72,8 +71,8 @@ module _ (i : TrackerImage) (from k : ℕ) (e : Tracked) (is : e ≡ track_in i 
       let y : o ≡ sound_at (settings_in i) (frames_in i) (issued_in i) from (track_in i k) = sound ∙ ap₂ (λ (z : Settings) (v : Tracked). sound_at z (frames_in i) (issued_in i) from v) same is in
       (λ j. means j && y j)
 
-  pub ahead-unusable : (n : ℕ) → usable_at i from k ≡ false → AheadOf i from k (record { usable = false; unbroken = false; next = n; tracked = e })
-  ahead-unusable n h = record { tested = sym h; predicted = λ z. never z; whole = λ z. never z; follows = λ z. never z }
+  pub ahead-unusable : usable_at i from k ≡ false → Err UnsoundState ≡ ahead_of i from k
+  ahead-unusable h = ap (λ (b : Bool). pick b (Ok (step_of i k)) (Err UnsoundState)) (sym h)
 
   module _ (h : usable_at i from k ≡ true) where
     sound : sound_at (settings_in i) (frames_in i) (issued_in i) from (track_in i k) ≡ true
@@ -87,10 +86,11 @@ module _ (i : TrackerImage) (from k : ℕ) (e : Tracked) (is : e ≡ track_in i 
     pub can-follow : usable_totals i ≡ true → e.id < 64000000
     can-follow t = omega (arith, id_below (settings_in i) (frames_in i) (issued_in i) from (track_in i k) sound, (bounds i t).issued, (bounds i t).frames, ap (λ (x : Tracked). x.id) is)
 
-    pub ahead-usable : (p : Tracked) (b : Bool) → p ≡ predict_tracked e → b ≡ unbroken p → AheadOf i from k (record { usable = true; unbroken = b; next = e.id + 1; tracked = p })
+    pub ahead-usable : (p : Tracked) (b : Bool) → p ≡ predict_tracked e → b ≡ unbroken p → Ok (record { next = e.id + 1; tracked = then_some b p }) ≡ ahead_of i from k
     ahead-usable p b q w =
         let ahead : p ≡ predict_tracked (track_in i k) = q ∙ ap predict_tracked is in
-        record { tested = sym h; predicted = λ z. ahead; whole = λ z. w ∙ ap unbroken ahead; follows = λ z. ap (λ (x : Tracked). x.id + 1) is }
+        let step : record { next = e.id + 1; tracked = then_some b p } ≡ step_of i k = λ j. record { next = (is j).id + 1; tracked = then_some ((w ∙ ap unbroken ahead) j) (ahead j) } in
+        ap (λ (a : Ahead). Ok a) step ∙ ap (λ (b : Bool). pick b (Ok (step_of i k)) (Err UnsoundState)) (sym h)
 
 -- ---- once the pairs are known
 

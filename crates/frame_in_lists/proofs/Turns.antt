@@ -1,4 +1,5 @@
 -- The table of tracks on its way through a frame: a track more, and one more turn of each loop that gives and bears. Assumes nothing.
+use Rattle.std.specs.Prelude.{Option}
 use mathlib.Core.Path.{◌≡◌, refl, sym, ap, subst, ◌∙◌}
 use mathlib.Core.Bool.{Bool, true, false}
 use mathlib.Core.List.{List, [], ◌∷◌, ◌++◌, append-nil}
@@ -11,7 +12,6 @@ use lib.Seq.{take-suc-set, get_or-take, get_or-drop, drop-drop, drop-set-lt}
 use Rattle.lists.specs.Lists.{put, keep}
 use Rattle.lists.proofs.Keep.{keep_append, keep-short}
 use Rattle.object.specs.declared.Detection.{Detection}
-use Rattle.strack.specs.declared.Kept.{Kept}
 use Rattle.frame.specs.declared.Settings.{Settings}
 use Rattle.frame.specs.declared.Tracked.{Tracked}
 use Rattle.frame.specs.Frame.{is_young}
@@ -73,7 +73,7 @@ module _ (es : List Tracked) (w₀ : List Tracked) (k n : ℕ) (w : List Tracked
 
 -- ---- boxes, misses and ageing
 
-module _ (s : Settings) (es : List Tracked) (ks : List Kept) where
+module _ (s : Settings) (es : List Tracked) (ks : List (Option Detection)) where
   -- the tracks before k, given what they were granted, that have not aged out
   abbrev pub young : ℕ → List Tracked
   young k = keep (is_young s) (given_all s.delta_t (take k es) ks)
@@ -81,7 +81,7 @@ module _ (s : Settings) (es : List Tracked) (ks : List Kept) where
   pub few-young : (k : ℕ) → length (young k) ≤ k
   few-young k = omega (arith, keep-short (is_young s) (given_all s.delta_t (take k es) ks), table.few-taken s.delta_t es ks k)
 
-  module _ (k : ℕ) (d : Tracked) (g : Kept) (e : Tracked) (there : k < length es) (granted : k < length ks) (is : e ≡ given_one s.delta_t (get_or ks k g) (get_or es k d)) where
+  module _ (k : ℕ) (d : Tracked) (g : Option Detection) (e : Tracked) (there : k < length es) (granted : k < length ks) (is : e ≡ given_one s.delta_t (get_or ks k g) (get_or es k d)) where
     one : young (k + 1) ≡ young k ++ put (is_young s e) e []
     one =
         ap (λ (j : ℕ). young j) (add-one k)

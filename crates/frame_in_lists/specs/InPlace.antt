@@ -1,6 +1,9 @@
 -- What the parts of a frame in place do, on the image that the caller lends. Definitions only.
-use Rattle.std.specs.Prelude.{◌≡◌, Bool, true, ◌&&◌, List, ℕ, ◌+◌, Float, set}
+use Rattle.std.specs.Prelude.{◌≡◌, Bool, ◌&&◌, List, ℕ, ◌+◌, Float, set, Result, Ok, Err}
+use Rattle.std.specs.Bool.{then_some}
 use Rattle.lists.specs.Lists.{pick}
+use Rattle.object.specs.declared.Refusal.{Refusal}
+use Rattle.object.specs.declared.Refusal.TheVariants.{UnsoundState}
 use Rattle.frame.specs.declared.Settings.{Settings}
 use Rattle.frame.specs.declared.Tracked.{Tracked}
 use Rattle.frame.specs.Frame.{predict_tracked, unbroken, is_reported, report_of}
@@ -15,10 +18,6 @@ use Rattle.frame_in_lists.specs.declared.Ahead.{Ahead}
 abbrev pub settings_in : TrackerImage → Settings
 settings_in i = (thaw_tracker i).settings
 
--- the settings of every image with these floats and words
-abbrev pub SettingsIn : List Float → List ℕ → Settings → Type 0
-SettingsIn floats words r = (wide : List ℕ) → r ≡ settings_in (image_of wide floats words)
-
 -- use_byte means something, and the state rules that need no track hold
 abbrev pub usable_totals : TrackerImage → Bool
 usable_totals i = tagged (byte_in i) && total_rules (settings_in i) (frames_in i) (issued_in i) (count_in i)
@@ -32,11 +31,12 @@ track_in i k = thaw_track (cell_at i k)
 abbrev pub usable_at : TrackerImage → ℕ → ℕ → Bool
 usable_at i from k = meant_track (cell_at i k) && sound_at (settings_in i) (frames_in i) (issued_in i) from (track_in i k)
 
-pub record AheadOf (i : TrackerImage) (from k : ℕ) (r : Ahead) : Type 0 where
-  pub tested : r.usable ≡ usable_at i from k
-  pub predicted : r.usable ≡ true → r.tracked ≡ predict_tracked (track_in i k)
-  pub whole : r.usable ≡ true → r.unbroken ≡ unbroken (predict_tracked (track_in i k))
-  pub follows : r.usable ≡ true → r.next ≡ (track_in i k).id + 1
+-- track k one frame ahead if prediction leaves it unbroken, and the least id that the next one may have
+abbrev pub step_of : TrackerImage → ℕ → Ahead
+step_of i k = let p = predict_tracked (track_in i k) in record { next = (track_in i k).id + 1; tracked = then_some (unbroken p) p }
+
+abbrev pub ahead_of : TrackerImage → ℕ → ℕ → Result Ahead Refusal
+ahead_of i from k = pick (usable_at i from k) (Ok (step_of i k)) (Err UnsoundState)
 
 -- ---- once the pairs are known
 

@@ -4,26 +4,13 @@
 ghost use Rattle.std.specs.Prelude.{◌≡◌, true, ◌+◌, ◌*◌, ◌≤◌, ◌<◌, length};
 ghost use Rattle.image.specs.Image.{image_of};
 ghost use Rattle.reports.specs.Written.{low_id};
-ghost use Rattle.frame_in_lists.specs.InPlace.{SettingsIn, usable_totals, AheadOf, ToldOf, Closed};
+ghost use Rattle.frame_in_lists.specs.InPlace.{usable_totals, ahead_of, ToldOf, Closed};
 
 use frame::{Settings, Tracked};
+use object::Refusal;
 use views::Views;
 
 // ---- before the loops
-
-pub fn settings_in(floats: &[f32; 10435], words: &[u32; 965]) -> Settings
-    ensures { SettingsIn floats.now words.now result }
-{
-    Settings {
-        det_thresh: floats[0],
-        iou_threshold: floats[1],
-        inertia: floats[2],
-        max_age: words[0],
-        min_hits: words[1],
-        delta_t: words[2],
-        use_byte: image::is_set(words[3]),
-    }
-}
 
 // `use_byte` means something, and the settings and the totals obey the state rules.
 pub fn are_totals_usable(wide: &[u64; 66], floats: &[f32; 10435], words: &[u32; 965]) -> bool
@@ -32,50 +19,41 @@ pub fn are_totals_usable(wide: &[u64; 66], floats: &[f32; 10435], words: &[u32; 
     if !image::is_tag(words[3]) {
         return false;
     }
-    let s = settings_in(floats, words);
+    let s = from_image::settings_in(floats, words);
     rules::are_totals_sound(s, words[4], wide[0], wide[1] as usize)
 }
 
 // ---- up to the rounds
 
-// A track read, and whether it means something and obeys the state rules. Then it is one frame ahead, and the next track's id is `next` or above.
+// A track one frame ahead, or None where prediction broke it. The next track's id is `next` or above.
 #[derive(Clone, Copy)]
 pub struct Ahead {
-    pub usable: bool,
-    pub unbroken: bool,
     pub next: u64,
-    pub tracked: Tracked,
+    pub tracked: Option<Tracked>,
 }
 
-// Track k, whose id has to be `from` or above.
+// Track k, if it means something and obeys the state rules, with an id of `from` or above.
 pub fn ahead_at(
     wide: &[u64; 66],
     floats: &[f32; 10435],
     words: &[u32; 965],
     from: u64,
     k: usize,
-) -> Ahead
+) -> Result<Ahead, Refusal>
     requires { (k < 64) × (usable_totals (image_of wide.now floats.now words.now) ≡ true) }
-    ensures { AheadOf (image_of wide.now floats.now words.now) from k result }
+    ensures { result ≡ ahead_of (image_of wide.now floats.now words.now) from k }
 {
-    let s = settings_in(floats, words);
+    let s = from_image::settings_in(floats, words);
     let e = from_image::track_at(wide, floats, words, k);
     let sound = rules::is_sound_at(s, words[4], wide[0], from, e);
     if !(image::is_meant_at(wide, floats, words, k) & sound) {
-        return Ahead {
-            usable: false,
-            unbroken: false,
-            next: from,
-            tracked: e,
-        };
+        return Err(Refusal::UnsoundState);
     }
     let p = one_track::predict_one(e);
-    Ahead {
-        usable: true,
-        unbroken: one_track::is_unbroken(p),
+    Ok(Ahead {
         next: e.id + 1,
-        tracked: p,
-    }
+        tracked: one_track::is_unbroken(p).then_some(p),
+    })
 }
 
 // The views that the rounds are given, of n tracks.

@@ -1,4 +1,5 @@
 -- A loop that fills a list from the front, and a track's numbers read from the whole lists or from its cell. Assumes nothing.
+use Rattle.std.specs.Prelude.{Option}
 use mathlib.Core.Path.{◌≡◌, refl, sym, ap, ◌∙◌}
 use mathlib.Core.Bool.{Bool}
 use mathlib.Core.List.{List, [], ◌∷◌, ◌++◌, map}
@@ -9,12 +10,11 @@ use lib.ListN.{length, drop, get_or}
 use Rattle.lists.specs.Lists.{tab}
 use Rattle.lists.proofs.All.{map-append}
 use Rattle.lists.proofs.Tab.{tab-done, tab-ext}
+use Rattle.kalman_filter.specs.declared.DetectBox.{DetectBox}
 use Rattle.kalman_filter.specs.declared.Filter.{Filter}
-use Rattle.strack.specs.declared.LastBox.{LastBox}
-use Rattle.strack.specs.declared.ListBox.{ListBox}
 use Rattle.strack.specs.declared.Direction.{Direction}
-use Rattle.strack.specs.declared.Kept.{Kept}
 use Rattle.image.specs.Image.{is_set, filter_at, box_at, list_at, direction_at, kept_at, part, thaw_track, image_of, cell_at}
+use Rattle.object.specs.declared.Detection.{Detection}
 use Rattle.image.proofs.Parts.{get_d_part, tab-of-part}
 
 -- ---- a list filled from the front, all of it
@@ -47,7 +47,7 @@ module _ (fs : List Float) (a n : ℕ) (o b : ℕ) (e : b ≡ a + o) where
 -- ---- a track
 
 -- what the calls read of the whole lists is what its cell holds
-pub track-read : (wide : List ℕ) (fs : List Float) (ws : List ℕ) (k : ℕ) {filter saved : Filter} {frozen : Bool} {last : LastBox} {list : ListBox} {direction : Direction} {kept : List Kept}
+pub track-read : (wide : List ℕ) (fs : List Float) (ws : List ℕ) (k : ℕ) {filter saved : Filter} {frozen : Bool} {last : Option Detection} {list : Option DetectBox} {direction : Option Direction} {kept : List (Option Detection)}
     → filter ≡ filter_at fs (3 + 163 * k) → saved ≡ filter_at fs (3 + 163 * k + 56) → frozen ≡ is_set (get_or ws (5 + 15 * k) 0)
     → last ≡ box_at (get_or ws (5 + 15 * k + 4) 0) fs (3 + 163 * k + 112) → list ≡ list_at (get_or ws (5 + 15 * k + 5) 0) fs (3 + 163 * k + 117)
     → direction ≡ direction_at (get_or ws (5 + 15 * k + 6) 0) fs (3 + 163 * k + 121) → kept ≡ kept_at ws (5 + 15 * k + 7) fs (3 + 163 * k + 123)
@@ -69,9 +69,8 @@ track-read wide fs ws k p-filter p-saved p-frozen p-last p-list p-direction p-ke
     let e-direction : direction_at (get_or ws (w + 6) 0) fs (f + 121) ≡ direction_at (get_or ws' 6 0) fs' 121 =
     ap (λ (t : ℕ). direction_at t fs (f + 121)) (word 6 (w + 6) refl (omega arith)) ∙ direction-part fs f 163 121 (f + 121) refl (get_or ws' 6 0) (omega arith) in
     let e-kept : kept_at ws (w + 7) fs (f + 123) ≡ kept_at ws' 7 fs' 123 =
-    tab-ext (λ j. record { at = box_at (get_or ws (w + 7 + j) 0) fs (f + 123 + 5 * j) }) (λ j. record { at = box_at (get_or ws' (7 + j) 0) fs' (123 + 5 * j) }) 8
-    (λ j b. ap (λ (x : LastBox). record { at = x })
-    (ap (λ (t : ℕ). box_at t fs (f + 123 + 5 * j)) (word (7 + j) (w + 7 + j) (omega arith) (omega (arith, b))) ∙ box-part fs f 163 (123 + 5 * j) (f + 123 + 5 * j) (omega arith) (get_or ws' (7 + j) 0) (omega (arith, b)))) in
+    tab-ext (λ j. box_at (get_or ws (w + 7 + j) 0) fs (f + 123 + 5 * j)) (λ j. box_at (get_or ws' (7 + j) 0) fs' (123 + 5 * j)) 8
+    (λ j b. ap (λ (t : ℕ). box_at t fs (f + 123 + 5 * j)) (word (7 + j) (w + 7 + j) (omega arith) (omega (arith, b))) ∙ box-part fs f 163 (123 + 5 * j) (f + 123 + 5 * j) (omega arith) (get_or ws' (7 + j) 0) (omega (arith, b))) in
     λ i. record {
       id = get_or wide (2 + k) 0;
       track = record {

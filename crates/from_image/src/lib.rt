@@ -1,13 +1,14 @@
 // The state that an image stands for. Its lists are lent and each track is read alone, so no call but `thaw` copies the whole.
 #![tactic(auto)]
 
-ghost use Rattle.std.specs.Prelude.{◌≡◌, ◌+◌, ◌≤◌, ◌<◌};
-ghost use Rattle.image.specs.Image.{filter_at, box_at, list_at, direction_at, kept_at, thaw_track, image_of, cell_at, thaw_tracker};
+ghost use Rattle.std.specs.Prelude.{◌≡◌, List, ℕ, ◌+◌, ◌≤◌, ◌<◌};
+ghost use Rattle.image.specs.Image.{filter_at, tagged_as, box_at, list_at, direction_at, kept_at, thaw_track, image_of, cell_at, thaw_tracker};
 
 use frame::{Settings, Tracked, Tracker};
 use image::TrackerImage;
 use kalman_filter::{DetectBox, Filter};
-use strack::{Direction, Kept, LastBox, ListBox, Track};
+use object::Detection;
+use strack::{Direction, Track};
 
 // ---- a track
 
@@ -16,79 +17,75 @@ fn filter_at(floats: &[f32; 10435], at: usize) -> Filter
     ensures { result ≡ filter_at floats.now at }
 {
     let mut x = [0.0; 7];
-    let mut j = 0usize;
-    while j < 7 {
-        x[j] = floats[at + j];
-        j += 1;
-    }
+    x.copy_from_slice(&floats[at..at + 7]);
     let mut p = [0.0; 49];
-    let mut k = 0usize;
-    while k < 49 {
-        p[k] = floats[at + 7 + k];
-        k += 1;
-    }
+    p.copy_from_slice(&floats[at + 7..at + 56]);
     Filter { x, p }
 }
 
-fn box_at(tag: u32, floats: &[f32; 10435], at: usize) -> LastBox
-    requires { at + 5 ≤ 10435 }
-    ensures { result ≡ box_at tag floats.now at }
+// What is there by its tag.
+fn tagged<T: Copy>(tag: u32, value: T) -> Option<T>
+    ensures { result ≡ tagged_as tag value }
 {
-    if tag == 0 {
-        LastBox::Unseen
+    if image::is_set(tag) {
+        Some(value)
     } else {
-        LastBox::Seen(
-            floats[at],
-            floats[at + 1],
-            floats[at + 2],
-            floats[at + 3],
-            floats[at + 4],
-        )
+        None
     }
 }
 
-fn list_at(tag: u32, floats: &[f32; 10435], at: usize) -> ListBox
+fn box_at(tag: u32, floats: &[f32; 10435], at: usize) -> Option<Detection>
+    requires { at + 5 ≤ 10435 }
+    ensures { result ≡ box_at tag floats.now at }
+{
+    tagged(
+        tag,
+        Detection {
+            x1: floats[at],
+            y1: floats[at + 1],
+            x2: floats[at + 2],
+            y2: floats[at + 3],
+            score: floats[at + 4],
+        },
+    )
+}
+
+fn list_at(tag: u32, floats: &[f32; 10435], at: usize) -> Option<DetectBox>
     requires { at + 4 ≤ 10435 }
     ensures { result ≡ list_at tag floats.now at }
 {
-    if tag == 0 {
-        ListBox::Empty
-    } else {
-        let z = DetectBox {
+    tagged(
+        tag,
+        DetectBox {
             x: floats[at],
             y: floats[at + 1],
             s: floats[at + 2],
             r: floats[at + 3],
-        };
-        ListBox::Holds(z)
-    }
+        },
+    )
 }
 
-fn direction_at(tag: u32, floats: &[f32; 10435], at: usize) -> Direction
+fn direction_at(tag: u32, floats: &[f32; 10435], at: usize) -> Option<Direction>
     requires { at + 2 ≤ 10435 }
     ensures { result ≡ direction_at tag floats.now at }
 {
-    if tag == 0 {
-        Direction::Unknown
-    } else {
-        Direction::Known(floats[at], floats[at + 1])
-    }
+    tagged(
+        tag,
+        Direction {
+            dy: floats[at],
+            dx: floats[at + 1],
+        },
+    )
 }
 
 // The eight kept boxes, whose numbers start at f and whose tags start at w.
-fn kept_at(floats: &[f32; 10435], words: &[u32; 965], f: usize, w: usize) -> [Kept; 8]
+fn kept_at(floats: &[f32; 10435], words: &[u32; 965], f: usize, w: usize) -> [Option<Detection>; 8]
     requires { (f + 40 ≤ 10435) × (w + 8 ≤ 965) }
     ensures { result ≡ kept_at words.now w floats.now f }
 {
-    let none = Kept {
-        at: LastBox::Unseen,
-    };
-    let mut out = [none; 8];
-    let mut j = 0usize;
-    while j < 8 {
-        let at = box_at(words[w + j], floats, f + 5 * j);
-        out[j] = Kept { at };
-        j += 1;
+    let mut out = [None; 8];
+    for j in 0..8 {
+        out[j] = box_at(words[w + j], floats, f + 5 * j);
     }
     out
 }
@@ -119,23 +116,11 @@ pub fn track_at(wide: &[u64; 66], floats: &[f32; 10435], words: &[u32; 965], k: 
 
 // ---- the tracker
 
-// The state that an image stands for.
-pub fn thaw(i: TrackerImage) -> Tracker
-    ensures { result ≡ thaw_tracker i }
+// The settings of every image with these floats and words.
+pub fn settings_in(floats: &[f32; 10435], words: &[u32; 965]) -> Settings
+    ensures { (wide : List ℕ) → result ≡ (thaw_tracker (image_of wide floats.now words.now)).settings }
 {
-    let wide = i.wide;
-    let floats = i.floats;
-    let words = i.words;
-    // the first track, until each cell has its own
-    let filler = track_at(&wide, &floats, &words, 0);
-    let mut table = [filler; 64];
-    let mut k = 0usize;
-    while k < 64 {
-        let e = track_at(&wide, &floats, &words, k);
-        table[k] = e;
-        k += 1;
-    }
-    let settings = Settings {
+    Settings {
         det_thresh: floats[0],
         iou_threshold: floats[1],
         inertia: floats[2],
@@ -143,12 +128,24 @@ pub fn thaw(i: TrackerImage) -> Tracker
         min_hits: words[1],
         delta_t: words[2],
         use_byte: image::is_set(words[3]),
-    };
+    }
+}
+
+// The state that an image stands for.
+pub fn thaw(i: TrackerImage) -> Tracker
+    ensures { result ≡ thaw_tracker i }
+{
+    // the first track, until each cell has its own
+    let filler = track_at(&i.wide, &i.floats, &i.words, 0);
+    let mut table = [filler; 64];
+    for k in 0..64 {
+        table[k] = track_at(&i.wide, &i.floats, &i.words, k);
+    }
     Tracker {
-        settings,
-        frames: words[4],
-        issued: wide[0],
-        count: wide[1] as usize,
+        settings: settings_in(&i.floats, &i.words),
+        frames: i.words[4],
+        issued: i.wide[0],
+        count: i.wide[1] as usize,
         table,
     }
 }

@@ -68,14 +68,12 @@ pub fn replay(f: Filter, from: DetectBox, to: DetectBox, gap: u32) -> Filter
 {
     let l = line_between(from, to, gap);
     let mut k = f;
-    let mut t = 1;
-    while t <= gap {
+    for t in 1..gap + 1 {
         let v = virtual_box(l, t);
         k = kalman_filter::update(k, v);
         if t < gap {
             k = kalman_filter::predict(k);
         }
-        t += 1;
     }
     kalman_filter::update(k, to)
 }

@@ -1,7 +1,7 @@
 -- The open places: one more, none past the slots, the same as the frame's, and the boxes gathered at them. Assumes nothing.
+use Rattle.std.specs.Prelude.{Option, Some, None}
 use mathlib.Core.Path.{◌≡◌, refl, sym, ap, ap₂, ◌∙◌}
 use mathlib.Core.Bool.{Bool, true, false}
-use mathlib.Core.Option.{Option, none, some}
 use mathlib.Core.List.{List, [], ◌∷◌, ◌++◌, map, append-nil}
 use Prim.Native.Nat.{ℕ, zero, suc, ◌+◌, ◌-◌, ◌*◌, ◌≤◌, ◌<◌}
 use native.Mathlib.Nat.{add-zero, zero-add}
@@ -15,12 +15,12 @@ use Rattle.lists.proofs.Tab.{length-tab}
 use Rattle.lists.proofs.Keep.{keep_append, keep-short}
 use Rattle.lists.proofs.All.{all_append, keep_all, map-append}
 use Rattle.object.specs.declared.Corners.{Corners}
-use Rattle.strack.specs.declared.Kept.{Kept}
 use Rattle.matching.specs.Associate.{corners_at, four_of}
-use Rattle.frame.specs.Rounds.{Grant, Slot, no_slot, slot_at, no_corners, unless_granted, open_from, kept_of, grant_of}
+use Rattle.frame.specs.Rounds.{Grant, Slot, no_slot, slot_at, no_corners, unless_granted, open_from, box_granted, grant_of}
 use Rattle.objects.proofs.Cells.{get_or-padding, sets-padding, flat-push, flat-length, padded-length}
 use Rattle.grants.specs.declared.Places.{Places}
 use Rattle.grants.specs.Grants.{grants_of, is_open, open_in, places_of, pushed_place, boxes_of}
+use Rattle.object.specs.declared.Detection.{Detection}
 use Rattle.objects.proofs.Reading.{four-at}
 
 -- ---- the loop over the grants
@@ -33,9 +33,9 @@ pub places_count : (js : List ℕ) → (places_of js).n ≡ length js
 unfolding places_of
 places_count js = refl
 
-module _ (ks : List Kept) where
+module _ (ks : List (Option Detection)) where
   abbrev vacant : ℕ → Bool
-  vacant j = is_open (get_or ks j (kept_of none))
+  vacant j = is_open (get_or ks j None)
 
   pub few : (n : ℕ) → length (open_in n ks) ≤ n
   unfolding open_in
@@ -62,7 +62,7 @@ below-tab : (n m : ℕ) → m ≤ n → All (λ j. j < n) (tab (λ j. j) m)
 below-tab n zero h = tt
 below-tab n (suc m) h = all_append (λ j. j < n) (tab (λ j. j) m) (m ∷ []) (below-tab n m (omega arith)) (omega arith, tt)
 
-pub open-below : (n : ℕ) (ks : List Kept) → All (λ j. j < n) (open_in n ks)
+pub open-below : (n : ℕ) (ks : List (Option Detection)) → All (λ j. j < n) (open_in n ks)
 unfolding open_in
 open-below n ks = keep_all (λ j. j < n) (vacant ks) (tab (λ j. j) n) (below-tab n n (omega arith))
 
@@ -94,16 +94,16 @@ open_snoc b (a ∷ ss) s = go a.got (open_snoc (suc b) ss s ∙ ap (λ (k : ℕ)
   where
     go : (g : Option Grant) → open_from (suc b) (ss ++ (s ∷ [])) ≡ open_from (suc b) ss ++ unless_granted s.got (b + suc (length ss)) []
         → unless_granted g b (open_from (suc b) (ss ++ (s ∷ []))) ≡ unless_granted g b (open_from (suc b) ss) ++ unless_granted s.got (b + suc (length ss)) []
-    go none e = ap (λ l. b ∷ l) e
-    go (some g) e = e
+    go None e = ap (λ l. b ∷ l) e
+    go (Some g) e = e
 
-pub grants-at : (ss : List Slot) (j : ℕ) → get_or (grants_of ss) j (kept_of none) ≡ grant_of (slot_at ss j)
+pub grants-at : (ss : List Slot) (j : ℕ) → get_or (grants_of ss) j None ≡ grant_of (slot_at ss j)
 unfolding grants_of
-grants-at ss j = get_or-padding (map grant_of ss) (64 - length ss) j (kept_of none) ∙ get_or-map grant_of ss j no_slot
+grants-at ss j = get_or-padding (map grant_of ss) (64 - length ss) j None ∙ get_or-map grant_of ss j no_slot
 
-put-open : (g : Option Grant) (j : ℕ) → put (is_open (kept_of g)) j [] ≡ unless_granted g j []
-put-open none j = refl
-put-open (some g) j = refl
+put-open : (g : Option Grant) (j : ℕ) → put (is_open (box_granted g)) j [] ≡ unless_granted g j []
+put-open None j = refl
+put-open (Some g) j = refl
 
 module _ (ss : List Slot) where
   open-steps : (j : ℕ) → j ≤ length ss → open_in j (grants_of ss) ≡ open_from 0 (take j ss)
@@ -112,7 +112,7 @@ module _ (ss : List Slot) where
   open-steps (suc j) h =
       let l : j < length ss = h in
       keep_append (vacant (grants_of ss)) (tab (λ j. j) j) (j ∷ [])
-      ∙ ap₂ ◌++◌ (open-steps j (omega arith)) (ap (λ (k : Kept). put (is_open k) j []) (grants-at ss j) ∙ put-open (slot_at ss j).got j)
+      ∙ ap₂ ◌++◌ (open-steps j (omega arith)) (ap (λ (k : Option Detection). put (is_open k) j []) (grants-at ss j) ∙ put-open (slot_at ss j).got j)
       ∙ sym (ap (open_from 0) (take-suc ss j no_slot l) ∙ open_snoc 0 (take j ss) (slot_at ss j) ∙ ap (λ (k : ℕ). open_from 0 (take j ss) ++ unless_granted (slot_at ss j).got k []) (zero-add (length (take j ss)) ∙ length-take-le j ss (omega arith)))
 
   pub open_is : open_in (length ss) (grants_of ss) ≡ open_from 0 ss
@@ -140,7 +140,7 @@ pub gathered-long : (bs : List Corners) → length bs ≤ 64 → length (boxes_o
 unfolding boxes_of
 gathered-long bs h = padded-length 256 (flat four_of bs) (omega (arith, flat-length four_of 4 (λ b. refl) bs))
 
-pub opened : (count : ℕ) (ks : List Kept) (p : Places) → count ≤ 64 → p ≡ places_of (open_in count ks) → p.n ≤ 64
+pub opened : (count : ℕ) (ks : List (Option Detection)) (p : Places) → count ≤ 64 → p ≡ places_of (open_in count ks) → p.n ≤ 64
 opened count ks p h e = rw e (omega (arith, places_count (open_in count ks), few ks count))
 
 pub take-few : {A : Type 0} (n : ℕ) (l : List A) → length (take n l) ≤ n

@@ -1,7 +1,7 @@
 -- Grants by marks, on the arrays: one more, and the same as the frame's. Assumes nothing.
+use Rattle.std.specs.Prelude.{Option, Some, None}
 use mathlib.Core.Path.{◌≡◌, refl, sym, ap, ap₂, subst, ◌∙◌}
 use mathlib.Core.Bool.{true, false}
-use mathlib.Core.Option.{none, some}
 use mathlib.Core.List.{List, [], ◌∷◌, ◌++◌, map}
 use Prim.Native.Nat.{ℕ, zero, suc, ◌+◌, ◌-◌, ◌≤◌, ◌<◌}
 use native.Mathlib.Nat.{suc_inj}
@@ -14,31 +14,29 @@ use Rattle.lists.specs.Lists.{tab, All}
 use Rattle.lists.proofs.Tab.{length-tab}
 use Rattle.lists.proofs.All.{all-at, all_append}
 use Rattle.object.specs.declared.Detection.{Detection}
-use Rattle.strack.specs.declared.Kept.{Kept}
-use Rattle.strack.specs.Track.{seen_of}
 use Rattle.lapjv_walk.specs.Marks.{free, is_free, index, mark_at}
 use Rattle.matching.specs.Paired.{Paired}
 use Rattle.frame.specs.Objects.{Obj}
-use Rattle.frame.specs.Rounds.{Slot, slot_at, grant_to, seat, place_of, kept_of, grant_of}
+use Rattle.frame.specs.Rounds.{Slot, slot_at, grant_to, seat, place_of, grant_of}
 use Rattle.frame.proofs.Seats.{granted-length}
 use Rattle.grants.specs.Grants.{grants_of, granted, seated, places_of, Names}
 use Rattle.grants.proofs.Opening.{places-at}
 
 -- ---- the loop over the marks
 
-seated-snoc : (ms : List ℤ) (ds : List Detection) (m : ℤ) (d : Detection) (ks : List Kept) → length ms ≡ length ds → seated (ms ++ (m ∷ [])) (ds ++ (d ∷ [])) ks ≡ granted m d (seated ms ds ks)
+seated-snoc : (ms : List ℤ) (ds : List Detection) (m : ℤ) (d : Detection) (ks : List (Option Detection)) → length ms ≡ length ds → seated (ms ++ (m ∷ [])) (ds ++ (d ∷ [])) ks ≡ granted m d (seated ms ds ks)
 seated-snoc [] [] m d ks h = refl
 seated-snoc [] (e ∷ ds) m d ks h = absurd (omega arith)
 seated-snoc (n ∷ ms) [] m d ks h = absurd (omega arith)
 seated-snoc (n ∷ ms) (e ∷ ds) m d ks h = seated-snoc ms ds m d (granted n e ks) (suc_inj h)
 
 -- one more turn of the loop
-pub turn : (place : ℤ → ℤ) (marks : List ℤ) (f : ℕ → Detection) (ks out r : List Kept) (i : ℕ) (d : Detection) → out ≡ seated (take i (map place marks)) (tab f i) ks → d ≡ f i
+pub turn : (place : ℤ → ℤ) (marks : List ℤ) (f : ℕ → Detection) (ks out r : List (Option Detection)) (i : ℕ) (d : Detection) → out ≡ seated (take i (map place marks)) (tab f i) ks → d ≡ f i
     → r ≡ granted (place (mark_at marks i)) d out → i < length marks → r ≡ seated (take (i + 1) (map place marks)) (tab f (i + 1)) ks
 turn place marks f ks out r i d e g h l =
     let n : length (map place marks) ≡ length marks = length-map marks place in
     let k : length (take i (map place marks)) ≡ length (tab f i) = length-take-le i (map place marks) (omega (arith, n)) ∙ sym (length-tab f i) in
-    h ∙ ap₂ (λ (x : Detection) (y : List Kept). granted (place (mark_at marks i)) x y) g e
+    h ∙ ap₂ (λ (x : Detection) (y : List (Option Detection)). granted (place (mark_at marks i)) x y) g e
     ∙ sym (seated-snoc (take i (map place marks)) (tab f i) (place (mark_at marks i)) (f i) ks k)
     ∙ ap (λ (x : ℤ). seated (take i (map place marks) ++ (x ∷ [])) (tab f i ++ (f i ∷ [])) ks) (sym (get_or-map place marks i (pos 0)))
     ∙ ap (λ (x : List ℤ). seated x (tab f i ++ (f i ∷ [])) ks) (sym (take-suc (map place marks) i (place (pos 0)) (omega (arith, n))))
@@ -97,9 +95,9 @@ granted-is : (k : ℕ) (m : ℤ) (o : Obj) (ss : List Slot) → Below (length ss
 unfolding grants_of
 granted-is k (negsuc n) o ss h = refl
 granted-is k (pos t) o ss h =
-    let a : Slot = record { view = (slot_at ss t).view; got = some (record { round = k; obj = o }) } in
-    ap₂ (λ (l : List Kept) (n : ℕ). l ++ replicate (64 - n) (kept_of none)) (map-set grant_of ss t a) (length-set ss t a)
-    ∙ sym (set-append_left (map grant_of ss) (replicate (64 - length ss) (kept_of none)) t (grant_of a) (omega (arith, length-map ss grant_of)))
+    let a : Slot = record { view = (slot_at ss t).view; got = Some (record { round = k; obj = o }) } in
+    ap₂ (λ (l : List (Option Detection)) (n : ℕ). l ++ replicate (64 - n) None) (map-set grant_of ss t a) (length-set ss t a)
+    ∙ sym (set-append_left (map grant_of ss) (replicate (64 - length ss) None) t (grant_of a) (omega (arith, length-map ss grant_of)))
 
 pub seat-is : (k : ℕ) (ms : List ℤ) (os : List Obj) (ss : List Slot) → All (Below (length ss)) ms → grants_of (seat k ms os ss) ≡ seated ms (map (λ (o : Obj). o.det) os) (grants_of ss)
 seat-is k [] os ss h = refl
@@ -110,11 +108,11 @@ seat-is k (m ∷ ms) (o ∷ os) ss h =
 
 -- ---- one mark
 
-pub granted-free : (js : List ℕ) (m : ℤ) (d : Detection) (ks : List Kept) → is_free m ≡ true → ks ≡ granted (place_of js m) d ks
+pub granted-free : (js : List ℕ) (m : ℤ) (d : Detection) (ks : List (Option Detection)) → is_free m ≡ true → ks ≡ granted (place_of js m) d ks
 granted-free js (negsuc n) d ks h = refl
 granted-free js (pos t) d ks h = absurd (let z : ◌≡◌ {A = ℕ} 0 1 = cc in omega arith)
 
-pub granted-named : (js : List ℕ) (m : ℤ) (d : Detection) (ks : List Kept) → is_free m ≡ false → set ks (get_or js (index m) 0) (record { at = seen_of d }) ≡ granted (place_of js m) d ks
+pub granted-named : (js : List ℕ) (m : ℤ) (d : Detection) (ks : List (Option Detection)) → is_free m ≡ false → set ks (get_or js (index m) 0) (Some d) ≡ granted (place_of js m) d ks
 granted-named js (negsuc n) d ks h = absurd (let z : ◌≡◌ {A = ℕ} 0 1 = cc in omega arith)
 granted-named js (pos t) d ks h = refl
 

@@ -1,13 +1,11 @@
 -- Grants and open slots as the code keeps them. Definitions only.
-use Rattle.std.specs.Prelude.{◌≡◌, Bool, not, List, [], ◌∷◌, ◌++◌, map, ℕ, ◌+◌, ◌-◌, ◌<◌, Float, ℤ, pos, negsuc, length, get_or, set, replicate}
-use Rattle.std.proofs.Math.Option.{none}
+use Rattle.std.specs.Option.{is_none}
+use Rattle.std.specs.Prelude.{◌≡◌, Bool, List, [], ◌∷◌, ◌++◌, map, ℕ, ◌+◌, ◌-◌, ◌<◌, Float, ℤ, pos, negsuc, length, get_or, set, replicate, Option, Some, None}
 use Rattle.lists.specs.Lists.{tab, keep, flat}
 use Rattle.object.specs.declared.Corners.{Corners}
 use Rattle.object.specs.declared.Detection.{Detection}
-use Rattle.strack.specs.declared.Kept.{Kept}
-use Rattle.strack.specs.Track.{seen_of, is_seen}
 use Rattle.frame.specs.Objects.{Obj}
-use Rattle.frame.specs.Rounds.{Slot, left_by, kept_of, grant_of}
+use Rattle.frame.specs.Rounds.{Slot, left_by, grant_of}
 use Rattle.objects.specs.declared.Dets.{Dets}
 use Rattle.objects.specs.Cells.{padded}
 use Rattle.objects.specs.Dets.{dets_of}
@@ -17,28 +15,28 @@ use Rattle.matching.specs.Associate.{four_of}
 -- ---- grants
 
 -- nothing past the slots
-unfoldable pub grants_of : List Slot → List Kept
-grants_of ss = map grant_of ss ++ replicate (64 - length ss) (kept_of none)
+unfoldable pub grants_of : List Slot → List (Option Detection)
+grants_of ss = map grant_of ss ++ replicate (64 - length ss) None
 
 -- the slot at a mark is granted the detection
-abbrev pub granted : ℤ → Detection → List Kept → List Kept
+abbrev pub granted : ℤ → Detection → List (Option Detection) → List (Option Detection)
 granted (negsuc n) d ks = ks
-granted (pos t) d ks = set ks t (record { at = seen_of d })
+granted (pos t) d ks = set ks t (Some d)
 
 -- each detection in turn goes to the slot that its mark names
-abbrev pub seated : List ℤ → List Detection → List Kept → List Kept
+abbrev pub seated : List ℤ → List Detection → List (Option Detection) → List (Option Detection)
 seated [] ds ks = ks
 seated (m ∷ ms) [] ks = ks
 seated (m ∷ ms) (d ∷ ds) ks = seated ms ds (granted m d ks)
 
 -- ---- open slots
 
-abbrev pub is_open : Kept → Bool
-is_open k = not (is_seen k.at)
+abbrev pub is_open : Option Detection → Bool
+is_open k = is_none k
 
 -- the places without a grant among the first `count`
-unfoldable pub open_in : ℕ → List Kept → List ℕ
-open_in count ks = keep (λ j. is_open (get_or ks j (kept_of none))) (tab (λ j. j) count)
+unfoldable pub open_in : ℕ → List (Option Detection) → List ℕ
+open_in count ks = keep (λ j. is_open (get_or ks j None)) (tab (λ j. j) count)
 
 unfoldable pub places_of : List ℕ → Places
 places_of js = record { n = length js; at = js ++ replicate (64 - length js) 0 }

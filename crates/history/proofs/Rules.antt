@@ -5,7 +5,8 @@ use Prim.Native.Nat.{ℕ, ◌+◌, ◌≤◌}
 use native.Mathlib.Omega.{arith}
 use lib.Dec.{eqb}
 use borrow.Author.Tests.{le-leb, lt-ltb, le-ltb, ne_eqb}
-use Rattle.strack.specs.Track.{is_seen, list_entry}
+use Rattle.std.specs.Option.{is_some}
+use Rattle.strack.specs.Track.{list_entry}
 use Rattle.strack.specs.Rules.{same_entry, own_rules}
 use Rattle.strack.proofs.Rules.{same-entry-self}
 use Rattle.history.specs.Uncut.{Uncut, last_held, frames_back}
@@ -33,8 +34,8 @@ module _ (w : Uncut) (h : Sound w) where
       let d : eqb w.since w.age ≡ false = ne_eqb w.since w.age (λ q. omega (arith, q, n, a)) in
       rw (le-leb w.streak w.age h.streak_within, le-leb w.since w.age h.since_within, listed, l, s, e, held-under m z k, d, lt-ltb 0 w.since (omega (arith, n)))
 
-  next-gap : Phase w → is_seen w.last ≡ true → frames_back w.history_obs ≡ w.since + 1
-  next-gap (never l o s e n a) q = absurd (let z : ◌≡◌ {A = Bool} false true = ap is_seen (sym l) ∙ q in let y : ◌≡◌ {A = ℕ} 0 1 = cc in omega arith)
+  next-gap : Phase w → is_some w.last ≡ true → frames_back w.history_obs ≡ w.since + 1
+  next-gap (never l o s e n a) q = absurd (let z : ◌≡◌ {A = Bool} false true = ap is_some (sym l) ∙ q in let y : ◌≡◌ {A = ℕ} 0 1 = cc in omega arith)
   next-gap (watched z k l o s e n a) q = rw (e, n)
   next-gap (lost m f z k l o s e n a) q = gap-is-since m w z k e n
 

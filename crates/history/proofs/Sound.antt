@@ -1,6 +1,6 @@
 -- Every replay is sound: each step keeps it. Assumes nothing.
 use mathlib.Core.Path.{◌≡◌, refl}
-use mathlib.Core.Option.{some}
+use Rattle.std.specs.Prelude.{Some}
 use mathlib.Core.List.{List, [], ◌∷◌}
 use Prim.Native.Nat.{ℕ, zero, suc, ◌≤◌}
 use native.Mathlib.Omega.{arith}
@@ -36,7 +36,7 @@ module _ (dt : ℕ) (b : Detection) (w : Uncut) where
   z' = measure_of (corners_of b)
 
   -- whatever came before, also where the box ends a gap
-  box-on-top : (boxed dt b (predicted w)).history_obs ≡ some z' ∷ w.history_obs
+  box-on-top : (boxed dt b (predicted w)).history_obs ≡ Some z' ∷ w.history_obs
   unfolding boxed predicted
   box-on-top = refl
 

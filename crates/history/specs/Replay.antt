@@ -1,12 +1,10 @@
 -- A track replayed alone from its birth box and its lines, a box or a miss for each later frame; and what the code keeps of it. Definitions only.
-use Rattle.std.specs.Prelude.{Bool, true, false, List, [], ◌∷◌, ℕ}
-use Rattle.std.proofs.Math.Option.{Option, none, some}
-use Rattle.kalman_filter.specs.declared.Filter.{Filter}
+use Rattle.std.specs.Prelude.{Option, List, [], ◌∷◌, ℕ}
+use Rattle.std.specs.Option.{is_some, unwrap_or}
 use Rattle.lists.specs.Lists.{tab}
 use Rattle.object.specs.declared.Detection.{Detection}
-use Rattle.strack.specs.declared.Kept.{Kept}
 use Rattle.strack.specs.declared.Track.{Track}
-use Rattle.strack.specs.Track.{kept_of, no_filter, birth_of, track_predict, track_box, track_miss}
+use Rattle.strack.specs.Track.{no_filter, birth_of, track_predict, track_box, track_miss}
 use Rattle.history.specs.Uncut.{Uncut, Dated, box_ago, last_held, born, predicted, boxed, missed}
 
 pub data Line : Type 0 where
@@ -25,23 +23,15 @@ replay dt b (l ∷ ls) = written dt l (predicted (replay dt b ls))
 -- ---- what the code keeps
 
 -- the boxes at an age and the seven before it
-abbrev pub kept_at : ℕ → List Dated → List Kept
-kept_at a os = tab (λ k. kept_of (box_ago os a k)) 8
-
-abbrev pub saved_filter : Option Filter → Filter
-saved_filter none = no_filter
-saved_filter (some f) = f
-
-abbrev pub is_saved : Option Filter → Bool
-is_saved none = false
-is_saved (some f) = true
+abbrev pub kept_at : ℕ → List Dated → List (Option Detection)
+kept_at a os = tab (λ k. box_ago os a k) 8
 
 -- at rest: as list box the last box in `history_obs`, as kept boxes those at the last 8 ages
 unfoldable pub cut : Uncut → Track
 cut w = record {
   filter = w.filter;
-  saved = saved_filter w.saved;
-  frozen = is_saved w.saved;
+  saved = unwrap_or w.saved no_filter;
+  frozen = is_some w.saved;
   age = w.age;
   streak = w.streak;
   since = w.since;

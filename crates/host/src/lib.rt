@@ -1,18 +1,19 @@
 // What C and Rust link, behind the symbols of crate `host_c`: the tracker's calls over the image of a state, which the caller holds in three lists of numbers.
 #![tactic(auto)]
 
-ghost use Rattle.std.specs.Prelude.{◌≡◌};
+ghost use Rattle.std.specs.Prelude.{◌≡◌, ℕ, Result};
 ghost use Rattle.image.specs.Image.{image_of};
 ghost use Rattle.frame.specs.Contract.{made_of};
-ghost use Rattle.lapjv.specs.Answer.{Answer, number_of};
+ghost use Rattle.lapjv.specs.Answer.{Answer, reads_of};
 ghost use Rattle.lapint.specs.Answer.{WholeAnswer};
+ghost use Rattle.object.specs.Refusal.{told_of};
 ghost use Rattle.oc_sort_tracker.specs.New.{defaults};
 ghost use Rattle.making.specs.Making.{fresh_of, fresh_with, begun};
 ghost use Rattle.shortcut_counts.specs.Counted.{Counted};
 ghost use Rattle.update_in_lists.specs.Host.{Hosted};
 
-use lapjv::Assigned;
 use making::SettingsImage;
+use object::Refusal;
 use shortcut_counts::Tally;
 use update_in_lists::Reply;
 
@@ -70,21 +71,20 @@ pub struct AssignReply {
 
 // Pairs n rows and n columns by their costs, given row after row.
 pub fn satinjacks_assign(n: usize, cost: &[f64], x: &mut [i64], y: &mut [i64]) -> AssignReply
-    ensures { (a : Assigned) × ((result.number ≡ number_of a) × Answer n cost.now x.old y.old a result.reads x.new y.new) }
+    ensures { (r : Result ℕ Refusal) × ((result.number ≡ told_of r) × (result.reads ≡ reads_of r) × Answer n cost.now x.old y.old r x.new y.new) }
 {
-    let solved = lapjv::lapjv(n, cost, x, y);
-    let answer = solved.answer;
+    let answer = lapjv::lapjv(n, cost, x, y);
     AssignReply {
-        number: lapjv::told(answer),
-        reads: solved.reads,
+        number: object::told(answer),
+        reads: answer.unwrap_or(0),
     }
 }
 
 // Pairs them by whole costs, at the least total (document 02, 2.3).
 pub fn satinjacks_assign_whole(n: usize, cost: &[i64], x: &mut [i64], y: &mut [i64]) -> u64
-    ensures { (a : Assigned) × ((result ≡ number_of a) × WholeAnswer n cost.now x.old y.old a x.new y.new) }
+    ensures { (r : Result Unit Refusal) × ((result ≡ told_of r) × WholeAnswer n cost.now x.old y.old r x.new y.new) }
 {
-    lapjv::told(lapint::lapint(n, cost, x, y))
+    object::told(lapint::lapint(n, cost, x, y))
 }
 
 // ---- how often the shortcut runs

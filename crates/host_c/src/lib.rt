@@ -1,19 +1,20 @@
 // The exported symbols of what C and Rust link, libhost.a: each calls the function of crate `host` of its name, under the same contract.
 #![tactic(auto)]
 
-ghost use Rattle.std.specs.Prelude.{◌≡◌};
+ghost use Rattle.std.specs.Prelude.{◌≡◌, ℕ, Result};
 ghost use Rattle.image.specs.Image.{image_of};
 ghost use Rattle.frame.specs.Contract.{made_of};
-ghost use Rattle.lapjv.specs.Answer.{Answer, number_of};
+ghost use Rattle.lapjv.specs.Answer.{Answer, reads_of};
 ghost use Rattle.lapint.specs.Answer.{WholeAnswer};
+ghost use Rattle.object.specs.Refusal.{told_of};
 ghost use Rattle.oc_sort_tracker.specs.New.{defaults};
 ghost use Rattle.making.specs.Making.{fresh_of, fresh_with, begun};
 ghost use Rattle.shortcut_counts.specs.Counted.{Counted};
 ghost use Rattle.update_in_lists.specs.Host.{Hosted};
 
 use host::AssignReply;
-use lapjv::Assigned;
 use making::SettingsImage;
+use object::Refusal;
 use shortcut_counts::Tally;
 use update_in_lists::Reply;
 
@@ -72,7 +73,7 @@ pub extern "C" fn satinjacks_assign(
     x: &mut [i64],
     y: &mut [i64],
 ) -> AssignReply
-    ensures { (a : Assigned) × ((result.number ≡ number_of a) × Answer n cost.now x.old y.old a result.reads x.new y.new) }
+    ensures { (r : Result ℕ Refusal) × ((result.number ≡ told_of r) × (result.reads ≡ reads_of r) × Answer n cost.now x.old y.old r x.new y.new) }
 {
     host::satinjacks_assign(n, cost, x, y)
 }
@@ -85,7 +86,7 @@ pub extern "C" fn satinjacks_assign_whole(
     x: &mut [i64],
     y: &mut [i64],
 ) -> u64
-    ensures { (a : Assigned) × ((result ≡ number_of a) × WholeAnswer n cost.now x.old y.old a x.new y.new) }
+    ensures { (r : Result Unit Refusal) × ((result ≡ told_of r) × WholeAnswer n cost.now x.old y.old r x.new y.new) }
 {
     host::satinjacks_assign_whole(n, cost, x, y)
 }

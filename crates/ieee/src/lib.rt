@@ -81,6 +81,7 @@ pub fn normalised(t: u64) -> Scaled
 {
     let mut m = t;
     let mut p: u64 = 149;
+    // Stays: a number is doubled and no index counted, so a `for` would be no plainer.
     while m < 0x80_0000 {
         m = 2 * m;
         p = p - 1;

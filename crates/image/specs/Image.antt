@@ -3,31 +3,25 @@
 -- wide, 66: ids issued, tracks, and each track's id
 -- floats, 10,435: det_thresh, iou_threshold, inertia, and 163 of each track: its filter (7 and 49), the saved one, its last box (5), the list's box (4), its direction (2), its kept boxes (5 each)
 -- words, 965: max_age, min_hits, delta_t, use_byte, frames, and 15 of each track: frozen, age, streak, since, and the tags of its last box, the list's box, its direction and its kept boxes
-use Rattle.std.specs.Prelude.{◌≡◌, Bool, true, false, not, ◌&&◌, List, [], ◌∷◌, ◌++◌, map, ℕ, ◌+◌, ◌-◌, ◌*◌, eqb, leb, Float, length, take, drop, get_or, set, replicate}
+use Rattle.std.specs.Prelude.{◌≡◌, Bool, true, not, ◌&&◌, List, [], ◌∷◌, ◌++◌, map, ℕ, ◌+◌, ◌-◌, ◌*◌, eqb, leb, Float, length, take, drop, get_or, set, replicate, Option, Some, None}
 use Rattle.std.specs.Float.{nan}
+use Rattle.std.specs.Int.{from_bool}
+use Rattle.std.specs.Option.{is_some}
 use Rattle.std.proofs.lemmas.List.Edits.{sets}
 use Rattle.ieee.specs.Ops.{f32}
 use Rattle.lists.specs.Lists.{pick, every, flat, tab}
+use Rattle.kalman_filter.specs.declared.DetectBox.{DetectBox}
 use Rattle.kalman_filter.specs.declared.Filter.{Filter}
-use Rattle.strack.specs.declared.LastBox.{LastBox}
-use Rattle.strack.specs.declared.LastBox.TheVariants.{Unseen, Seen}
-use Rattle.strack.specs.declared.ListBox.{ListBox}
-use Rattle.strack.specs.declared.ListBox.TheVariants.{Empty, Holds}
 use Rattle.strack.specs.declared.Direction.{Direction}
-use Rattle.strack.specs.declared.Direction.TheVariants.{Unknown, Known}
-use Rattle.strack.specs.declared.Kept.{Kept}
 use Rattle.frame.specs.declared.Tracked.{Tracked}
 use Rattle.frame.specs.declared.Tracker.{Tracker}
+use Rattle.object.specs.declared.Detection.{Detection}
 use Rattle.image.specs.declared.TrackerImage.{TrackerImage}
 
 abbrev pub f0 : Float
 f0 = f32 0
 
 -- ---- flags and tags
-
-abbrev pub flag_of : Bool → ℕ
-flag_of false = 0
-flag_of true = 1
 
 abbrev pub is_set : ℕ → Bool
 is_set n = not (eqb n 0)
@@ -46,48 +40,36 @@ filter_at fs k = record { x = tab (λ j. get_or fs (k + j) nan) 7; p = tab (λ j
 
 -- ---- boxes and directions: one that is absent is tag 0 and zeros; tag 0 is absent, any other is present
 
-abbrev pub box_tag : LastBox → ℕ
-box_tag Unseen = 0
-box_tag (Seen x1 y1 x2 y2 score) = 1
+abbrev pub tag_of : {A : Type 0} → Option A → ℕ
+tag_of o = from_bool (is_some o)
 
-abbrev pub box_floats : LastBox → List Float
-box_floats Unseen = f0 ∷ f0 ∷ f0 ∷ f0 ∷ f0 ∷ []
-box_floats (Seen x1 y1 x2 y2 score) = x1 ∷ y1 ∷ x2 ∷ y2 ∷ score ∷ []
+abbrev pub tagged_as : {A : Type 0} → ℕ → A → Option A
+tagged_as tag a = pick (is_set tag) (Some a) None
 
-abbrev pub box_at : ℕ → List Float → ℕ → LastBox
-box_at tag fs k = pick (is_set tag) (Seen (get_or fs k nan) (get_or fs (k + 1) nan) (get_or fs (k + 2) nan) (get_or fs (k + 3) nan) (get_or fs (k + 4) nan)) Unseen
+abbrev pub box_floats : Option Detection → List Float
+box_floats None = replicate 5 f0
+box_floats (Some d) = d.x1 ∷ d.y1 ∷ d.x2 ∷ d.y2 ∷ d.score ∷ []
 
-abbrev pub list_tag : ListBox → ℕ
-list_tag Empty = 0
-list_tag (Holds z) = 1
+abbrev pub box_at : ℕ → List Float → ℕ → Option Detection
+box_at tag fs k = tagged_as tag (record { x1 = get_or fs k nan; y1 = get_or fs (k + 1) nan; x2 = get_or fs (k + 2) nan; y2 = get_or fs (k + 3) nan; score = get_or fs (k + 4) nan })
 
-abbrev pub list_floats : ListBox → List Float
-list_floats Empty = f0 ∷ f0 ∷ f0 ∷ f0 ∷ []
-list_floats (Holds z) = z.x ∷ z.y ∷ z.s ∷ z.r ∷ []
+abbrev pub list_floats : Option DetectBox → List Float
+list_floats None = replicate 4 f0
+list_floats (Some z) = z.x ∷ z.y ∷ z.s ∷ z.r ∷ []
 
-abbrev pub list_at : ℕ → List Float → ℕ → ListBox
-list_at tag fs k = pick (is_set tag) (Holds (record { x = get_or fs k nan; y = get_or fs (k + 1) nan; s = get_or fs (k + 2) nan; r = get_or fs (k + 3) nan })) Empty
+abbrev pub list_at : ℕ → List Float → ℕ → Option DetectBox
+list_at tag fs k = tagged_as tag (record { x = get_or fs k nan; y = get_or fs (k + 1) nan; s = get_or fs (k + 2) nan; r = get_or fs (k + 3) nan })
 
-abbrev pub direction_tag : Direction → ℕ
-direction_tag Unknown = 0
-direction_tag (Known dy dx) = 1
+abbrev pub direction_floats : Option Direction → List Float
+direction_floats None = replicate 2 f0
+direction_floats (Some d) = d.dy ∷ d.dx ∷ []
 
-abbrev pub direction_floats : Direction → List Float
-direction_floats Unknown = f0 ∷ f0 ∷ []
-direction_floats (Known dy dx) = dy ∷ dx ∷ []
-
-abbrev pub direction_at : ℕ → List Float → ℕ → Direction
-direction_at tag fs k = pick (is_set tag) (Known (get_or fs k nan) (get_or fs (k + 1) nan)) Unknown
-
-abbrev pub kept_tag : Kept → ℕ
-kept_tag k = box_tag k.at
-
-abbrev pub kept_floats : Kept → List Float
-kept_floats k = box_floats k.at
+abbrev pub direction_at : ℕ → List Float → ℕ → Option Direction
+direction_at tag fs k = tagged_as tag (record { dy = get_or fs k nan; dx = get_or fs (k + 1) nan })
 
 -- eight kept boxes, whose tags start at w and whose numbers start at k
-abbrev pub kept_at : List ℕ → ℕ → List Float → ℕ → List Kept
-kept_at ws w fs k = tab (λ j. record { at = box_at (get_or ws (w + j) 0) fs (k + 5 * j) }) 8
+abbrev pub kept_at : List ℕ → ℕ → List Float → ℕ → List (Option Detection)
+kept_at ws w fs k = tab (λ j. box_at (get_or ws (w + j) 0) fs (k + 5 * j)) 8
 
 -- ---- a track: its id, its 163 floats and its 15 words
 
@@ -101,8 +83,8 @@ freeze_track e =
     let t = e.track in
     record {
       id = e.id;
-      floats = filter_floats t.filter ++ (filter_floats t.saved ++ (box_floats t.last ++ (list_floats t.list ++ (direction_floats t.direction ++ flat kept_floats t.kept))));
-      words = flag_of t.frozen ∷ t.age ∷ t.streak ∷ t.since ∷ box_tag t.last ∷ list_tag t.list ∷ direction_tag t.direction ∷ map kept_tag t.kept;
+      floats = filter_floats t.filter ++ (filter_floats t.saved ++ (box_floats t.last ++ (list_floats t.list ++ (direction_floats t.direction ++ flat box_floats t.kept))));
+      words = from_bool t.frozen ∷ t.age ∷ t.streak ∷ t.since ∷ tag_of t.last ∷ tag_of t.list ∷ tag_of t.direction ∷ map tag_of t.kept;
     }
 
 abbrev pub id_of : Tracked → ℕ
@@ -192,7 +174,7 @@ freeze_tracker t =
     record {
       wide = t.issued ∷ t.count ∷ map id_of t.table;
       floats = s.det_thresh ∷ s.iou_threshold ∷ s.inertia ∷ flat floats_of t.table;
-      words = s.max_age ∷ s.min_hits ∷ s.delta_t ∷ flag_of s.use_byte ∷ t.frames ∷ flat words_of t.table;
+      words = s.max_age ∷ s.min_hits ∷ s.delta_t ∷ from_bool s.use_byte ∷ t.frames ∷ flat words_of t.table;
     }
 
 -- use_byte means something, and so does each of the first `count` tracks

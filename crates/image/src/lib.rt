@@ -14,6 +14,7 @@ pub struct TrackerImage {
 }
 
 // ---- flags and tags: a tag is 0 where there is none, 1 where there is one; others mean nothing
+// Stays: numbers, and no enum: C passes them.
 
 pub fn is_set(n: u32) -> bool
     ensures { result ≡ is_set n }
@@ -36,10 +37,8 @@ pub fn is_meant_at(wide: &[u64; 66], floats: &[f32; 10435], words: &[u32; 965], 
 {
     let w = 5 + 15 * k;
     let mut ok = is_tag(words[w]);
-    let mut j = 4usize;
-    while j < 15 {
-        ok = ok & is_tag(words[w + j]);
-        j += 1;
+    for j in 4..15 {
+        ok &= is_tag(words[w + j]);
     }
     ok
 }
@@ -48,18 +47,13 @@ pub fn is_meant_at(wide: &[u64; 66], floats: &[f32; 10435], words: &[u32; 965], 
 pub fn is_meant(i: TrackerImage) -> bool
     ensures { result ≡ meant i }
 {
-    let wide = i.wide;
-    let floats = i.floats;
-    let words = i.words;
-    let mut ok = is_tag(words[3]);
-    let count = wide[1];
-    let mut k = 0usize;
-    while k < 64 {
+    let mut ok = is_tag(i.words[3]);
+    let count = i.wide[1];
+    for k in 0..64 {
         if count <= k as u64 {
             return ok;
         }
-        ok = ok & is_meant_at(&wide, &floats, &words, k);
-        k += 1;
+        ok &= is_meant_at(&i.wide, &i.floats, &i.words, k);
     }
     ok
 }

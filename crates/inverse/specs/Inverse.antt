@@ -1,10 +1,9 @@
 -- The identity matrix, and the inverse of a 4 by 4 matrix of f32, as lists, row after row (document 01, stand-ins, "`try_inverse`"). Definitions only.
-use Rattle.std.specs.Prelude.{ℕ, suc, zero, ◌+◌, ◌*◌, ◌/◌, ◌%◌, Bool, true, false, ◌||◌, List, [], ◌++◌, eqb, Float, get_or, replicate}
-use Rattle.std.proofs.Math.Option.{Option, none, some}
+use Rattle.std.specs.Prelude.{ℕ, suc, zero, ◌+◌, ◌*◌, ◌/◌, ◌%◌, Bool, true, false, ◌||◌, List, [], ◌++◌, eqb, Float, get_or, Option, None, Some}
+use Rattle.std.specs.Option.{option_map}
 use Rattle.std.specs.Float.{nan, binary32}
 use Rattle.std.specs.Float.Ieee.{sub, mul, div, eq, ne, of_bits}
 use Rattle.lists.specs.Lists.{pick, tab}
-use Rattle.inverse.specs.declared.Inverse.{Inverse}
 
 abbrev pub zero32 : Float
 zero32 = of_bits binary32 0
@@ -51,27 +50,22 @@ cleared c m = let t = scaled c (row c m) in tab (λ i. pick (eqb i c) t (reduced
 
 -- "means none"
 abbrev pub unless : Bool → Rows → Option Rows
-unless true m = none
-unless false m = some m
+unless true m = None
+unless false m = Some m
 
 unfoldable pub column : ℕ → Option Rows → Option Rows
 unfolding unusable scaled reduced
-column c none = none
-column c (some m) = unless (unusable (get_or (row c m) c nan)) (cleared c m)
+column c None = None
+column c (Some m) = unless (unusable (get_or (row c m) c nan)) (cleared c m)
 
 -- "Columns in order": after the first n of them
 abbrev pub columns : ℕ → Rows → Option Rows
-columns zero m = some m
+columns zero m = Some m
 columns (suc n) m = column n (columns n m)
 
 abbrev pub right_half : Rows → List Float
 right_half m = tab (λ q. get_or (row (q / 4) m) (4 + q % 4) nan) 16
 
--- (the entries where there is none: 16 zeros)
-abbrev pub answer : Option Rows → Inverse
-answer none = record { exists = false; entries = replicate 16 zero32 }
-answer (some m) = record { exists = true; entries = right_half m }
-
-unfoldable pub inverse : List Float → Inverse
+unfoldable pub inverse : List Float → Option (List Float)
 unfolding beside column
-inverse s = answer (columns 4 (beside s))
+inverse s = option_map right_half (columns 4 (beside s))

@@ -1,11 +1,9 @@
 -- Each step of the filter by the steps that it is made of, left shut. Assumes nothing.
 use mathlib.Core.Path.{◌≡◌, refl}
 use mathlib.Core.List.{List}
-use mathlib.Core.Bool.{true, false}
 use lib.Ieee.{Float}
 use Rattle.matrix.specs.Matrix.{product, sum, difference, transpose}
-use Rattle.inverse.specs.declared.Inverse.{Inverse}
-use Rattle.inverse.specs.Inverse.{identity, inverse}
+use Rattle.inverse.specs.Inverse.{identity}
 use Rattle.kalman_filter.specs.Filter.{f_matrix, h_matrix, r_matrix, q_matrix, measured, predict_of, inverse_or_identity, gain_of, joseph_of, update_of}
 use Rattle.kalman_filter.specs.declared.Filter.{Filter}
 use Rattle.kalman_filter.specs.declared.DetectBox.{DetectBox}
@@ -34,12 +32,3 @@ pub update-is : (z : DetectBox) (f : Filter) → update_of z f ≡ record {
 }
 unfolding update_of
 update-is z f = refl
-
--- no inverse means identity
-pub inverse-used : (s : List Float) (i : Inverse) → i ≡ inverse s → i.exists ≡ true → inverse_or_identity s ≡ i.entries
-unfolding inverse_or_identity
-inverse-used s i e h = rw (← e, h) refl
-
-pub identity-used : (s : List Float) (i : Inverse) → i ≡ inverse s → i.exists ≡ false → inverse_or_identity s ≡ identity 4
-unfolding inverse_or_identity
-identity-used s i e h = rw (← e, h) refl

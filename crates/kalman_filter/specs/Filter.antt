@@ -1,6 +1,7 @@
 -- Document 01, item 4: the filter's constants, its start, predict and update. Products and sums are crate `matrix`'s, identity and inverse crate `inverse`'s; chains associate left.
 -- Definitions only.
-use Rattle.std.specs.Prelude.{Bool, true, false, ◌||◌, List, [], ◌∷◌, ℕ, ◌+◌, ◌*◌, ◌/◌, ◌%◌, eqb, Float, get_or, length}
+use Rattle.std.specs.Prelude.{Bool, ◌||◌, List, [], ◌∷◌, ℕ, ◌+◌, ◌*◌, ◌/◌, ◌%◌, eqb, Float, get_or, length}
+use Rattle.std.specs.Option.{unwrap_or}
 use Rattle.std.specs.Float.{nan}
 use Rattle.std.specs.Float.Ieee.{of_bits}
 use Rattle.ieee.specs.Ops.{f32}
@@ -78,13 +79,9 @@ predict_of f = record {
 }
 
 -- no inverse means identity
-abbrev entries_or : Bool → List Float → List Float
-entries_or true s = s
-entries_or false s = identity 4
-
 unfoldable pub inverse_or_identity : List Float → List Float
 unfolding inverse identity
-inverse_or_identity s = entries_or (inverse s).exists (inverse s).entries
+inverse_or_identity s = unwrap_or (inverse s) (identity 4)
 
 -- P Hᵀ
 unfoldable pub pht_of : Filter → List Float

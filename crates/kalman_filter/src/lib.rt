@@ -122,59 +122,46 @@ const IDENTITY7: [f32; 49] = [
 pub fn new(z: DetectBox) -> Filter
     ensures { result ≡ start_of z }
 {
-    let x = [z.x, z.y, z.s, z.r, 0.0, 0.0, 0.0];
-    let p = P;
-    Filter { x, p }
+    Filter {
+        x: [z.x, z.y, z.s, z.r, 0.0, 0.0, 0.0],
+        p: P,
+    }
 }
 
 // One frame ahead.
 pub fn predict(f: Filter) -> Filter
     ensures { result ≡ predict_of f }
 {
-    let fm = F;
-    let ft = F_TRANSPOSED;
-    let q = Q;
-    let x = f.x;
-    let p = f.p;
-    let mut x1 = [0.0f32; 7];
-    matrix::product1(&fm, &x, &mut x1, 7, 7);
-    let mut fp = [0.0f32; 49];
-    matrix::product7(&fm, &p, &mut fp, 7, 7);
-    let mut fpf = [0.0f32; 49];
-    matrix::product7(&fp, &ft, &mut fpf, 7, 7);
-    let mut p1 = [0.0f32; 49];
-    matrix::sum(&fpf, &q, &mut p1);
-    Filter { x: x1, p: p1 }
+    let mut x = [0.0; 7];
+    matrix::product::<1>(&F, &f.x, &mut x, 7, 7);
+    let mut fp = [0.0; 49];
+    matrix::product::<7>(&F, &f.p, &mut fp, 7, 7);
+    let mut fpf = [0.0; 49];
+    matrix::product::<7>(&fp, &F_TRANSPOSED, &mut fpf, 7, 7);
+    let mut p = [0.0; 49];
+    matrix::sum(&fpf, &Q, &mut p);
+    Filter { x, p }
 }
 
 fn inverse_or_identity(s: [f32; 16]) -> [f32; 16]
     ensures { result ≡ inverse_or_identity s }
 {
-    let i = inverse::try_inverse(s);
-    if i.exists {
-        let e = i.entries;
-        return e;
-    }
-    IDENTITY4
+    inverse::try_inverse(s).unwrap_or(IDENTITY4)
 }
 
 // The gain of a measurement.
 fn gain(f: Filter) -> [f32; 28]
     ensures { result ≡ gain_of f }
 {
-    let h = H;
-    let ht = H_TRANSPOSED;
-    let noise = R;
-    let p = f.p;
-    let mut pht = [0.0f32; 28];
-    matrix::product4(&p, &ht, &mut pht, 7, 7);
-    let mut hpht = [0.0f32; 16];
-    matrix::product4(&h, &pht, &mut hpht, 4, 7);
-    let mut s = [0.0f32; 16];
-    matrix::sum(&hpht, &noise, &mut s);
+    let mut pht = [0.0; 28];
+    matrix::product::<4>(&f.p, &H_TRANSPOSED, &mut pht, 7, 7);
+    let mut hpht = [0.0; 16];
+    matrix::product::<4>(&H, &pht, &mut hpht, 4, 7);
+    let mut s = [0.0; 16];
+    matrix::sum(&hpht, &R, &mut s);
     let inverse = inverse_or_identity(s);
-    let mut k = [0.0f32; 28];
-    matrix::product4(&pht, &inverse, &mut k, 7, 4);
+    let mut k = [0.0; 28];
+    matrix::product::<4>(&pht, &inverse, &mut k, 7, 4);
     k
 }
 
@@ -182,13 +169,12 @@ fn gain(f: Filter) -> [f32; 28]
 fn noise(k: [f32; 28]) -> [f32; 49]
     ensures { result ≡ product 7 4 7 (product 7 4 4 k r_matrix) (transpose 7 4 k) }
 {
-    let r = R;
-    let mut kr = [0.0f32; 28];
-    matrix::product4(&k, &r, &mut kr, 7, 4);
-    let mut kt = [0.0f32; 28];
+    let mut kr = [0.0; 28];
+    matrix::product::<4>(&k, &R, &mut kr, 7, 4);
+    let mut kt = [0.0; 28];
     matrix::transpose(&k, &mut kt, 7, 4);
-    let mut krk = [0.0f32; 49];
-    matrix::product7(&kr, &kt, &mut krk, 7, 4);
+    let mut krk = [0.0; 49];
+    matrix::product::<7>(&kr, &kt, &mut krk, 7, 4);
     krk
 }
 
@@ -196,20 +182,18 @@ fn noise(k: [f32; 28]) -> [f32; 49]
 fn joseph(k: [f32; 28], p: [f32; 49]) -> [f32; 49]
     ensures { result ≡ joseph_of k p }
 {
-    let h = H;
-    let id = IDENTITY7;
-    let mut kh = [0.0f32; 49];
-    matrix::product7(&k, &h, &mut kh, 7, 4);
-    let mut a = [0.0f32; 49];
-    matrix::difference(&id, &kh, &mut a);
-    let mut ap = [0.0f32; 49];
-    matrix::product7(&a, &p, &mut ap, 7, 7);
-    let mut at = [0.0f32; 49];
+    let mut kh = [0.0; 49];
+    matrix::product::<7>(&k, &H, &mut kh, 7, 4);
+    let mut a = [0.0; 49];
+    matrix::difference(&IDENTITY7, &kh, &mut a);
+    let mut ap = [0.0; 49];
+    matrix::product::<7>(&a, &p, &mut ap, 7, 7);
+    let mut at = [0.0; 49];
     matrix::transpose(&a, &mut at, 7, 7);
-    let mut apa = [0.0f32; 49];
-    matrix::product7(&ap, &at, &mut apa, 7, 7);
+    let mut apa = [0.0; 49];
+    matrix::product::<7>(&ap, &at, &mut apa, 7, 7);
     let krk = noise(k);
-    let mut p1 = [0.0f32; 49];
+    let mut p1 = [0.0; 49];
     matrix::sum(&apa, &krk, &mut p1);
     p1
 }
@@ -218,21 +202,17 @@ fn joseph(k: [f32; 28], p: [f32; 49]) -> [f32; 49]
 pub fn update(f: Filter, z: DetectBox) -> Filter
     ensures { result ≡ update_of z f }
 {
-    let h = H;
-    let x = f.x;
-    let p = f.p;
-    let m = [z.x, z.y, z.s, z.r];
-    let mut hx = [0.0f32; 4];
-    matrix::product1(&h, &x, &mut hx, 4, 7);
-    let mut y = [0.0f32; 4];
-    matrix::difference(&m, &hx, &mut y);
+    let mut hx = [0.0; 4];
+    matrix::product::<1>(&H, &f.x, &mut hx, 4, 7);
+    let mut y = [0.0; 4];
+    matrix::difference(&[z.x, z.y, z.s, z.r], &hx, &mut y);
     let k = gain(f);
-    let mut ky = [0.0f32; 7];
-    matrix::product1(&k, &y, &mut ky, 7, 4);
-    let mut x1 = [0.0f32; 7];
-    matrix::sum(&x, &ky, &mut x1);
-    let p1 = joseph(k, p);
-    Filter { x: x1, p: p1 }
+    let mut ky = [0.0; 7];
+    matrix::product::<1>(&k, &y, &mut ky, 7, 4);
+    let mut x = [0.0; 7];
+    matrix::sum(&f.x, &ky, &mut x);
+    let p = joseph(k, f.p);
+    Filter { x, p }
 }
 
 // The filter to restore when a box comes again after a miss.

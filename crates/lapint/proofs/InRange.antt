@@ -11,23 +11,12 @@ use native.Mathlib.Decide.{ℕ_discrete}
 use native.Mathlib.Omega.{arith}
 use Rattle.lapjv_walk.specs.Holds.{Square}
 use Rattle.lapjv_walk.specs.Ops.{cost_at}
-use Rattle.lapjv_walk.proofs.Cases.{and_left, and_right}
+use Rattle.lapjv_walk.proofs.Cases.{and_left, and_right, not-both}
 use Rattle.lapjv_walk.proofs.Cells.{cell}
 use Rattle.lapint_walk.specs.Wholes.{wholes}
 use Rattle.lapint_walk.specs.Holds.{Costs}
 use Rattle.lapint_walk.proofs.Numbers.{le_yes, lt_not}
 use Rattle.lapint.specs.Answer.{all_in_range, cost_in_range}
-
-pub one_more : (cost : List ℤ) (k : ℕ) (g one h : Bool) → g ≡ all_in_range cost k → one ≡ cost_in_range (get_or cost k (pos 0)) → (one ≡ true → h ≡ g) → (one ≡ false → h ≡ false) → h ≡ all_in_range cost (k + 1)
-one_more cost k g one h eg eo a b =
-    let e : k + 1 ≡ suc k = omega arith in
-    rw (e, ← eg, ← eo) (go g one a b)
-  where
-    go : (g one : Bool) → (one ≡ true → h ≡ g) → (one ≡ false → h ≡ false) → h ≡ (g && one)
-    go true true a b = a refl
-    go true false a b = b refl
-    go false true a b = a refl
-    go false false a b = b refl
 
 each-in-range : (cost : List ℤ) (k : ℕ) → all_in_range cost k ≡ true → (i : ℕ) → i < k → cost_in_range (get_or cost i (pos 0)) ≡ true
 each-in-range cost zero e i h = absurd (omega arith)
@@ -35,6 +24,14 @@ each-in-range cost (suc k) e i h = elim (ℕ_discrete i k) [
   | yes r ↦ rw r (and_right (all_in_range cost k) (cost_in_range (get_or cost k (pos 0))) e)
   | no u ↦ each-in-range cost k (and_left (all_in_range cost k) (cost_in_range (get_or cost k (pos 0))) e) i (omega arith)
 ]
+
+-- one that isn't
+pub one-out : (cost : List ℤ) (k n : ℕ) → k < n → cost_in_range (get_or cost k (pos 0)) ≡ false → all_in_range cost n ≡ false
+one-out cost k n h e = go (all_in_range cost n) refl
+  where
+    go : (b : Bool) → all_in_range cost n ≡ b → all_in_range cost n ≡ false
+    go false d = d
+    go true d = not-both (cost_in_range (get_or cost k (pos 0))) (each-in-range cost n d k h) e
 
 module _ (n : ℕ) (cost : List ℤ) (q : Square n cost) (e : all_in_range cost (length cost) ≡ true) where
   at : (i j : ℕ) → i < n → j < n → cost_in_range (cost_at wholes n cost i j) ≡ true

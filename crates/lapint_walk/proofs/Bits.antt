@@ -79,6 +79,9 @@ far-small f j h = record { top = omega (arith, f.top j h); low = omega (arith, f
 pub price-only : {n : ℕ} {v : List ℤ} → Prices n v → (j : ℕ) → j < n → Small (val v j)
 price-only p j h = record { top = omega (arith, p.top j h); low = omega (arith, p.low j h) }
 
+pub cost-only : (n : ℕ) (cost : List ℤ) → Costs n cost → (i j : ℕ) → i < n → j < n → Small (cost_at wholes n cost i j)
+cost-only n cost cs i j hi hj = record { top = omega (arith, cs.top i j hi hj); low = omega (arith, cs.low i j hi hj) }
+
 -- a reduced cost less a distance
 pub height-small : (n : ℕ) (cost v d : List ℤ) (i j : ℕ) → Costs n cost → Prices n v → Far n d → i < n → j < n → Small (rc n cost v i j -ℤ val d j)
 height-small n cost v d i j cs ps f hi hj =

@@ -21,7 +21,9 @@ use Rattle.lapjv_walk.proofs.Cases.{not-both, pick-by, pos_inj}
 use Rattle.lapjv_walk.proofs.Loops.{runs_done, walk-ind}
 use Rattle.lapjv_walk.proofs.Pigeon.{at_place}
 use Rattle.lapjv_walk.proofs.Search.{Earlier}
+use Rattle.lapint_walk.specs.Holds.{Prices, Small}
 use Rattle.lapint_walk.specs.Wholes.{wholes}
+use Rattle.lapint_walk.proofs.Bits.{price-only}
 use Rattle.lapint_walk.proofs.Numbers.{up, down, Le, Low, Equal, LeMinus, minus, plus}
 use Rattle.lapint_walk.proofs.Good.{Costs, Good, same, val}
 use Rattle.lapint_walk.proofs.Near.{Edge}
@@ -62,6 +64,9 @@ module _ (n : ℕ) (v d : List ℤ) (cols : List ℕ) (a : Apart n cols) (lo : �
       (walk-ind (raise_step wholes mind d cols) (λ b w. Raised n v d cols mind b w) 0 k v (omega arith)
       (record { len = lv; inner = λ p h. absurd (omega arith); outer = λ j u. refl })
       (λ b w _ hb o. raise-step mind b w (omega arith) o)).outer (get_or cols k 0) (λ p h e. let z : p ≡ k = a.inj p k (omega arith) hk e in omega arith)
+
+  pub raised-small : (mind : ℤ) → Prices n v → (k : ℕ) → k < lo → Small (val (walk (raise_step wholes mind d cols) 0 k v) (get_or cols k 0))
+  raised-small mind p k h = let hk : k < n = omega arith in rw (raised_at mind k hk) (price-only p (get_or cols k 0) (a.below k hk))
 
   raised : Raised n v d cols (val d (get_or cols lo 0)) lo (raise wholes lo d cols v)
   unfolding raise

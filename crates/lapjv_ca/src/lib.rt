@@ -3,12 +3,13 @@
 
 ghost use Rattle.std.specs.Prelude.{◌≡◌, false, ℕ, ◌≤◌, ◌<◌, length};
 ghost use Rattle.lapjv_walk.specs.Marks.{index, mark_at, num_at};
-ghost use Rattle.lapjv_walk.specs.Ops.{floats};
 ghost use Rattle.lapjv_walk.specs.Lapjv.{hop_more, augment, ca_step, ca_dense};
 ghost use Rattle.lapjv_walk.specs.Reads.{find_path_reads, ca_reads};
 ghost use Rattle.lapjv_walk.specs.Holds.{Square, Marked, Ranged, Room, Left};
 ghost use Rattle.lapjv_walk.specs.Ends.{RowEnds};
+ghost use Rattle.costs.specs.OpsOn.{ops};
 
+use costs::Cost;
 use lapjv_path::find_path_dense;
 use lapjv_walk::{free_at, index_at, put_mark};
 
@@ -30,6 +31,7 @@ pub fn augment(n: usize, pred: &[usize], start: usize, last: usize, x: &mut [i64
 {
     let mut i = n;
     let mut j = last;
+    // Stays: no range counts this loop, which goes back along a way.
     while i != start {
         i = pred[j];
         put_mark(y, j, i);
@@ -39,44 +41,44 @@ pub fn augment(n: usize, pred: &[usize], start: usize, last: usize, x: &mut [i64
     }
 }
 
-// The free row start gets a column, for so many reads.
-fn ca_row(
+// The free row start gets a column, for so many reads; d is lent for the distances.
+fn ca_row<C: Cost>(
     n: usize,
-    cost: &[f64],
+    cost: &[C],
     start: usize,
+    d: &mut [C],
     pred: &mut [usize],
     x: &mut [i64],
     y: &mut [i64],
-    v: &mut [f64],
+    v: &mut [C],
 ) -> usize
-    requires { Square n cost.now × (start < n) × (length pred.old ≡ n) × Ranged n x.now × Marked n y.old × Room n y.old × (length v.old ≡ n) × RowEnds floats n cost.now start (record { x = x.now; y = y.old; v = v.old }) }
-    ensures { (ca_step floats n cost.now start (record { x = x.entry.now; y = y.old; v = v.old }) ≡ record { x = x.exit.now; y = y.new; v = v.new }) × (result ≡ find_path_reads floats n cost.now start y.old v.old) }
+    requires { Square n cost.now × (start < n) × (length d.old ≡ n) × (length pred.old ≡ n) × Ranged n x.now × Marked n y.old × Room n y.old × (length v.old ≡ n) × RowEnds (ops C.on) n cost.now start (record { x = x.now; y = y.old; v = v.old }) × C.Costs n cost.now × C.Good n cost.now y.old v.old }
+    ensures { (ca_step (ops C.on) n cost.now start (record { x = x.entry.now; y = y.old; v = v.old }) ≡ record { x = x.exit.now; y = y.new; v = v.new }) × (result ≡ find_path_reads (ops C.on) n cost.now start y.old v.old) }
 {
-    let way = find_path_dense(n, cost, start, y, v, pred);
+    let way = find_path_dense(n, cost, start, d, y, v, pred);
     augment(n, pred, start, way.last, x, y);
     way.reads
 }
 
-// Each row left over gets a column, for so many reads.
-pub fn ca_dense(
+// Each row left over gets a column, for so many reads; d is lent for the distances.
+pub fn ca_dense<C: Cost>(
     n: usize,
-    cost: &[f64],
+    cost: &[C],
     count: usize,
     rows: &[usize],
+    d: &mut [C],
     pred: &mut [usize],
     x: &mut [i64],
     y: &mut [i64],
-    v: &mut [f64],
+    v: &mut [C],
 ) -> usize
-    requires { Square n cost.now × (length pred.old ≡ n) × Left n (record { rows = rows.now; count = count; x = x.old; y = y.old; v = v.old }) }
-    ensures { (ca_dense floats n cost.now count (record { rows = rows.entry.now; count = count; x = x.entry.now; y = y.old; v = v.old }) ≡ record { x = x.exit.now; y = y.new; v = v.new }) × (result ≡ ca_reads floats n cost.now count (record { rows = rows.entry.now; count = count; x = x.entry.now; y = y.old; v = v.old })) }
+    requires { Square n cost.now × (length d.old ≡ n) × (length pred.old ≡ n) × Left n (record { rows = rows.now; count = count; x = x.old; y = y.old; v = v.old }) × C.Costs n cost.now × C.Good n cost.now y.old v.old }
+    ensures { (ca_dense (ops C.on) n cost.now count (record { rows = rows.entry.now; count = count; x = x.entry.now; y = y.old; v = v.old }) ≡ record { x = x.exit.now; y = y.new; v = v.new }) × (result ≡ ca_reads (ops C.on) n cost.now count (record { rows = rows.entry.now; count = count; x = x.entry.now; y = y.old; v = v.old })) }
 {
     let mut reads = 0;
-    let mut r = 0;
-    while r < count {
+    for r in 0..count {
         let start = rows[r];
-        reads += ca_row(n, cost, start, pred, x, y, v);
-        r += 1;
+        reads += ca_row(n, cost, start, d, pred, x, y, v);
     }
     reads
 }

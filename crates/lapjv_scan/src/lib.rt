@@ -2,53 +2,53 @@
 #![tactic(auto)]
 
 ghost use Rattle.std.specs.Prelude.{◌≡◌, ℕ, ◌≤◌, ◌<◌, length};
-ghost use Rattle.lapjv_walk.specs.Marks.{free};
-ghost use Rattle.lapjv_walk.specs.Ops.{floats};
+ghost use Rattle.lapjv_walk.specs.Marks.{free, mark_of};
 ghost use Rattle.lapjv_walk.specs.Path.{scan_row, scan_dense};
 ghost use Rattle.lapjv_walk.specs.Reads.{scan_row_reads, scan_reads};
 ghost use Rattle.lapjv_walk.specs.Holds.{Square, Apart, Marked, Held};
+ghost use Rattle.costs.specs.OpsOn.{ops};
 
-use lapjv_walk::{cost_at, free_at, index_at, is_free, mark};
+use costs::{Cost, reduced_cost};
+use lapjv_walk::{free_at, index_at};
 
 // Where a row's scan ended: the end of the columns at the least distance, the free column found, and the costs read.
 #[derive(Clone, Copy)]
 pub struct Hit {
     pub hi: usize,
-    pub found: i64,
+    pub found: Option<usize>,
     pub reads: usize,
 }
 
 // Row i, at the least distance mind, against the columns from `from` on.
-fn scan_row(
+fn scan_row<C: Cost>(
     n: usize,
-    cost: &[f64],
+    cost: &[C],
     i: usize,
-    h: f64,
-    mind: f64,
+    h: C,
+    mind: C,
     from: usize,
-    d: &mut [f64],
+    d: &mut [C],
     cols: &mut [usize],
     pred: &mut [usize],
     y: &[i64],
-    v: &[f64],
+    v: &[C],
 ) -> Hit
-    requires { Square n cost.now × (i < n) × (from ≤ n) × (length d.old ≡ n) × Apart n cols.old × (length pred.old ≡ n) × (length y.now ≡ n) × (length v.now ≡ n) }
-    ensures { (lo : ℕ) → (scan_row floats n cost.now y.now v.now i h mind (record { lo = lo; hi = from; d = d.old; cols = cols.old; pred = pred.old; found = free }) ≡ record { lo = lo; hi = result.hi; d = d.new; cols = cols.new; pred = pred.new; found = result.found }) × (result.reads ≡ scan_row_reads floats n cost.now y.now v.now i h mind (record { lo = lo; hi = from; d = d.old; cols = cols.old; pred = pred.old; found = free })) }
+    requires { Square n cost.now × (i < n) × (from ≤ n) × (length d.old ≡ n) × Apart n cols.old × (length pred.old ≡ n) × (length y.now ≡ n) × (length v.now ≡ n) × C.Costs n cost.now × C.Prices n v.now × C.Small h }
+    ensures { (lo : ℕ) → (scan_row (ops C.on) n cost.now y.now v.now i h mind (record { lo = lo; hi = from; d = d.old; cols = cols.old; pred = pred.old; found = free }) ≡ record { lo = lo; hi = result.hi; d = d.new; cols = cols.new; pred = pred.new; found = mark_of result.found }) × (result.reads ≡ scan_row_reads (ops C.on) n cost.now y.now v.now i h mind (record { lo = lo; hi = from; d = d.old; cols = cols.old; pred = pred.old; found = free })) }
 {
     let mut hi = from;
-    let mut k = from;
-    while k < n {
+    for k in from..n {
         let j = cols[k];
-        let c = cost_at(n, cost, i, j) - v[j] - h;
-        if c < d[j] {
+        let c = reduced_cost(n, cost, v, i, j).minus(h);
+        if c.is_less(d[j]) {
             d[j] = c;
             pred[j] = i;
-            if c == mind {
+            if c.is_same(mind) {
                 if free_at(y, j) {
                     let reads = k + 1 - from;
                     return Hit {
                         hi,
-                        found: mark(j),
+                        found: Some(j),
                         reads,
                     };
                 }
@@ -57,12 +57,11 @@ fn scan_row(
                 hi += 1;
             }
         }
-        k += 1;
     }
     let reads = n - from;
     Hit {
         hi,
-        found: -1,
+        found: None,
         reads,
     }
 }
@@ -72,43 +71,43 @@ fn scan_row(
 pub struct Scanned {
     pub lo: usize,
     pub hi: usize,
-    pub found: i64,
+    pub found: Option<usize>,
     pub reads: usize,
 }
 
 // Scans the columns at the least distance, from `at` up to `end`, until a free column joins them.
-pub fn scan_dense(
+pub fn scan_dense<C: Cost>(
     n: usize,
-    cost: &[f64],
+    cost: &[C],
     at: usize,
     end: usize,
-    d: &mut [f64],
+    d: &mut [C],
     cols: &mut [usize],
     pred: &mut [usize],
     y: &[i64],
-    v: &[f64],
+    v: &[C],
 ) -> Scanned
-    requires { Square n cost.now × Marked n y.now × (length v.now ≡ n) × Held n y.now (record { lo = at; hi = end; d = d.old; cols = cols.old; pred = pred.old; found = free }) }
-    ensures { (scan_dense floats n cost.now y.now v.now (record { lo = at; hi = end; d = d.old; cols = cols.old; pred = pred.old; found = free }) ≡ record { lo = result.lo; hi = result.hi; d = d.new; cols = cols.new; pred = pred.new; found = result.found }) × (result.reads ≡ scan_reads floats n cost.now y.now v.now (record { lo = at; hi = end; d = d.old; cols = cols.old; pred = pred.old; found = free })) }
+    requires { Square n cost.now × Marked n y.now × (length v.now ≡ n) × Held n y.now (record { lo = at; hi = end; d = d.old; cols = cols.old; pred = pred.old; found = free }) × C.Costs n cost.now × C.Good n cost.now y.now v.now × C.Far n d.old }
+    ensures { (scan_dense (ops C.on) n cost.now y.now v.now (record { lo = at; hi = end; d = d.old; cols = cols.old; pred = pred.old; found = free }) ≡ record { lo = result.lo; hi = result.hi; d = d.new; cols = cols.new; pred = pred.new; found = mark_of result.found }) × (result.reads ≡ scan_reads (ops C.on) n cost.now y.now v.now (record { lo = at; hi = end; d = d.old; cols = cols.old; pred = pred.old; found = free })) }
 {
     let mut lo = at;
     let mut hi = end;
     let mut reads = 0;
+    // Stays: no range counts this loop, since each row moves hi.
     while lo != hi {
         let j = cols[lo];
         lo += 1;
         let i = index_at(y, j);
         let mind = d[j];
-        let h = cost_at(n, cost, i, j) - v[j] - mind;
+        let h = reduced_cost(n, cost, v, i, j).minus(mind);
         let s = scan_row(n, cost, i, h, mind, hi, d, cols, pred, y, v);
         hi = s.hi;
         reads += 1 + s.reads;
-        let found = s.found;
-        if !is_free(found) {
+        if let Some(found) = s.found {
             return Scanned {
                 lo: at,
                 hi: end,
-                found,
+                found: Some(found),
                 reads,
             };
         }
@@ -116,7 +115,7 @@ pub fn scan_dense(
     Scanned {
         lo,
         hi,
-        found: -1,
+        found: None,
         reads,
     }
 }

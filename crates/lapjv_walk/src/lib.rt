@@ -1,10 +1,9 @@
-// The assignment's walk, as definitions and laws (specs/, proofs/); and the marks and costs that its steps read, for the crates of its phases.
+// The assignment's walk, as definitions and laws (specs/, proofs/); and the marks that its steps read, for the crates of its phases.
+// Stays: a mark is an i64, -1 for none, since C hands over and reads the lists of marks.
 #![tactic(auto)]
 
 ghost use Rattle.std.specs.Prelude.{◌≡◌, false, ◌<◌, pos, length, set};
 ghost use Rattle.lapjv_walk.specs.Marks.{free, is_free, index, mark_at};
-ghost use Rattle.lapjv_walk.specs.Ops.{floats, cost_at};
-ghost use Rattle.lapjv_walk.specs.Holds.{Square};
 
 // What a step leaves: so many rows without a column; and how many costs it read (document 02, 2.12).
 #[derive(Clone, Copy)]
@@ -66,12 +65,4 @@ pub fn clear_mark(y: &mut [i64], j: usize)
     ensures { y.new ≡ set y.old j free }
 {
     y[j] = -1;
-}
-
-// The cost of row i at column j: the one place where costs are read.
-pub fn cost_at(n: usize, cost: &[f64], i: usize, j: usize) -> f64
-    requires { Square n cost.now × (i < n) × (j < n) }
-    ensures { result ≡ cost_at floats n cost.now i j }
-{
-    cost[i * n + j]
 }

@@ -2,3 +2,4 @@ pub mod Tab
 pub mod Keep
 pub mod All
 pub mod Fill
+pub mod Each

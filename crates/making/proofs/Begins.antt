@@ -1,18 +1,22 @@
 -- Making a tracker in place: what stands in the lists, by how it came out. Assumes nothing.
-use borrow.Author.Tests.{ne_eqb, le-leb, lt-leb}
-use mathlib.Core.Path.{◌≡◌, sym, ap, subst, ◌∙◌}
-use mathlib.Core.Bool.{Bool}
-use Prim.Native.Nat.{ℕ, ◌≤◌, ◌<◌}
-use lib.Dec.{eqb, leb}
+use borrow.Author.Tests.{ne_eqb}
+use mathlib.Core.Path.{◌≡◌, refl, sym, ap, subst, ◌∙◌}
+use mathlib.Core.Bool.{Bool, true, false}
+use Prim.Native.Nat.{ℕ}
+use native.Mathlib.Omega.{arith}
+use lib.Dec.{eqb}
+use Rattle.std.specs.Prelude.{Result, Ok, Err}
 use Rattle.lists.specs.Lists.{pick}
-use Rattle.object.specs.Refusal.{number_of}
+use Rattle.object.specs.Refusal.{number_of, told_of}
+use Rattle.object.specs.declared.Refusal.{Refusal}
 use Rattle.object.specs.declared.Refusal.TheVariants.{BadSetting}
+use Rattle.frame.specs.declared.Settings.{Settings}
 use Rattle.frame.specs.declared.Made.{Made}
-use Rattle.frame.specs.Contract.{told_of, made_of, MadeBy}
+use Rattle.frame.specs.Contract.{made_of, MadeBy}
 use Rattle.image.specs.declared.TrackerImage.{TrackerImage}
-use Rattle.image.specs.Image.{is_set, freeze_tracker}
+use Rattle.image.specs.Image.{tagged, freeze_tracker}
 use Rattle.making.specs.declared.SettingsImage.{SettingsImage}
-use Rattle.making.specs.Making.{thaw_settings, Fresh, fresh_of, fresh_with, begun}
+use Rattle.making.specs.Making.{thaw_settings, settings_of, Fresh, fresh_of, fresh_with, begun}
 
 -- a call answered r and left i' for i, where this was to be made
 abbrev pub Begins : Fresh → ℕ → TrackerImage → TrackerImage → Type 0
@@ -32,20 +36,33 @@ begins-as f g r i i' e h = subst (λ (x : Fresh). Begins x r i i') e h
 
 -- ---- all seven settings
 
-pub third-tag : (s : SettingsImage) (i : TrackerImage) → 1 < s.use_byte → Begins (fresh_with s) 2 i i
+-- settings that were taken, or not
+taken : (s : SettingsImage) (q : Settings) → Ok q ≡ settings_of s → (tagged s.use_byte ≡ true) × (q ≡ thaw_settings s)
+taken s q e = go (tagged s.use_byte) e
+  where
+    go : (b : Bool) → ◌≡◌ {A = Result Settings Refusal} (Ok q) (pick b (Ok (thaw_settings s)) (Err BadSetting)) → (b ≡ true) × (q ≡ thaw_settings s)
+    go true h = (refl, cc)
+    go false h = absurd (let z : ◌≡◌ {A = ℕ} 0 1 = cc in omega arith)
+
+not_taken : (s : SettingsImage) (r : Refusal) → Err r ≡ settings_of s → (tagged s.use_byte ≡ false) × (r ≡ BadSetting)
+not_taken s r e = go (tagged s.use_byte) e
+  where
+    go : (b : Bool) → ◌≡◌ {A = Result Settings Refusal} (Err r) (pick b (Ok (thaw_settings s)) (Err BadSetting)) → (b ≡ false) × (r ≡ BadSetting)
+    go true h = absurd (let z : ◌≡◌ {A = ℕ} 0 1 = cc in omega arith)
+    go false h = (refl, cc)
+
+pub bad_tag : (s : SettingsImage) (r : Refusal) (n : ℕ) (i : TrackerImage) → Err r ≡ settings_of s → n ≡ number_of r → Begins (fresh_with s) n i i
 unfolding fresh_with
-third-tag s i h =
+bad_tag s r n i e k =
     let f : Fresh = fresh_of (made_of (thaw_settings s)) in
-    let e : leb s.use_byte 1 ≡ _ = lt-leb s.use_byte 1 h in (
-      sym (ap (λ (b : Bool). pick b f.number (number_of BadSetting)) e),
-      sym (ap (λ (b : Bool). pick (eqb (pick b f.number (number_of BadSetting)) 0) f.image i) e),
+    let t = not_taken s r e in (
+      k ∙ ap number_of t.1 ∙ sym (ap (λ (b : Bool). pick b f.number (number_of BadSetting)) t.0),
+      sym (ap (λ (b : Bool). pick (eqb (pick b f.number (number_of BadSetting)) 0) f.image i) t.0),
     )
 
-pub with_tag : (s : SettingsImage) (b : Bool) (m : Made) → s.use_byte ≤ 1 → b ≡ is_set s.use_byte
-    → MadeBy (record { det_thresh = s.det_thresh; iou_threshold = s.iou_threshold; inertia = s.inertia; max_age = s.max_age; min_hits = s.min_hits; delta_t = s.delta_t; use_byte = b }) m → fresh_of m ≡ fresh_with s
+pub good_tag : (s : SettingsImage) (q : Settings) (m : Made) → Ok q ≡ settings_of s → MadeBy q m → fresh_of m ≡ fresh_with s
 unfolding fresh_with
-with_tag s b m h e p =
-    let q : m ≡ made_of (thaw_settings s)
-    = p.made ∙ ap (λ (x : Bool). made_of (record { det_thresh = s.det_thresh; iou_threshold = s.iou_threshold; inertia = s.inertia; max_age = s.max_age; min_hits = s.min_hits; delta_t = s.delta_t; use_byte = x })) e in
+good_tag s q m e p =
+    let t = taken s q e in
     let f : Fresh = fresh_of (made_of (thaw_settings s)) in
-    ap fresh_of q ∙ sym (ap (λ (x : Bool). record { number = pick x f.number (number_of BadSetting); image = f.image }) (le-leb s.use_byte 1 h))
+    ap fresh_of (p.made ∙ ap made_of t.1) ∙ sym (ap (λ (x : Bool). record { number = pick x f.number (number_of BadSetting); image = f.image }) t.0)

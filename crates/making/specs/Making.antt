@@ -1,11 +1,12 @@
 -- Making a tracker in the lists of an image: what the host is told, and what stands in the lists then. Definitions only.
-use Rattle.std.specs.Prelude.{ℕ, eqb}
+use Rattle.std.specs.Prelude.{ℕ, eqb, Result, Ok, Err}
 use Rattle.lists.specs.Lists.{pick}
-use Rattle.object.specs.Refusal.{number_of}
+use Rattle.object.specs.Refusal.{number_of, told_of}
+use Rattle.object.specs.declared.Refusal.{Refusal}
 use Rattle.object.specs.declared.Refusal.TheVariants.{BadSetting}
 use Rattle.frame.specs.declared.Settings.{Settings}
 use Rattle.frame.specs.declared.Made.{Made}
-use Rattle.frame.specs.Contract.{told_of, made_of}
+use Rattle.frame.specs.Contract.{made_of}
 use Rattle.image.specs.declared.TrackerImage.{TrackerImage}
 use Rattle.image.specs.Image.{freeze_tracker, is_set, tagged}
 use Rattle.making.specs.declared.SettingsImage.{SettingsImage}
@@ -20,6 +21,10 @@ thaw_settings s = record {
   delta_t = s.delta_t;
   use_byte = is_set s.use_byte;
 }
+
+-- a use_byte other than 0 and 1 is a bad setting
+abbrev pub settings_of : SettingsImage → Result Settings Refusal
+settings_of s = pick (tagged s.use_byte) (Ok (thaw_settings s)) (Err BadSetting)
 
 -- a refusal's number or 0, and the image of the tracker that is made
 pub record Fresh : Type 0 where

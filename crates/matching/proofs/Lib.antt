@@ -1,4 +1,3 @@
 pub mod Counting
 pub mod Loops
 pub mod Rows
-pub mod Kept

@@ -2,22 +2,20 @@
 use mathlib.Core.Path.{◌≡◌, sym, ap, ap₂, ◌∙◌}
 use mathlib.Core.List.{List, [], ◌++◌, append_assoc, append-nil}
 use Prim.Native.Nat.{ℕ, ◌+◌, ◌*◌, ◌/◌, ◌%◌, ◌≤◌, ◌<◌}
-use native.Mathlib.Nat.{div-eq_of_lt, mod-eq_of_lt, add-zero, mul-add-div_right, mul-add-mod_self_right, mul-le-mul_right, suc-mul, zero-mul}
+use native.Mathlib.Nat.{div-eq_of_lt, mod-eq_of_lt, add-zero, mul-add-div_right, mul-add-mod_self_right, suc-mul}
 use native.Mathlib.Numerals.{add-one}
 use native.Mathlib.Omega.{arith}
 use lib.Ieee.{Float, binary32, nan, add, sub}
 use lib.ListN.{length, get_or, take, drop, length-drop, drop_of_length-le, get_or-append}
 use lib.Seq.{get_or-drop, get_or-take, take_all, take_at, drop_at, drop-drop}
 use Rattle.lists.specs.Lists.{tab}
-use Rattle.lists.proofs.Tab.{length-tab, get_or-tab, tab-ext, tab-append, filled-length}
+use Rattle.lists.proofs.Tab.{length-tab, get_or-tab, tab-ext, tab-append}
 use Rattle.object.specs.declared.Detection.{Detection}
 use Rattle.object.specs.Object.{corners_of}
 use Rattle.pair.specs.Angle.{unit_of, step_to, angle_of, cosine_of, mask_of, term_of}
 use Rattle.matching.specs.Passes.{centre_x, centre_y, Centred}
 use Rattle.matching.specs.Associate.{angle_term, det_at, step_at}
-use Rattle.matching.specs.Matching.{Matrix}
 use Rattle.matching.specs.Cells.{entry_at}
-use Rattle.matching.proofs.Loops.{Filling, filling-none, filling-done, row_ends}
 
 -- ---- the places of a row
 
@@ -34,8 +32,8 @@ filled_at f n rest l e j h = ap (λ (m : List Float). get_or m j nan) e ∙ get_
 
 -- ---- one more row: what was behind the rows done, filled from its front
 
-module _ (f : ℕ → Float) (l : List Float) (n : ℕ) where
-  row-front : (out ys : List Float) (from nt k : ℕ) (g : ℕ → Float) → out ≡ tab f from ++ drop from l → length out ≤ from + k → ys ≡ tab g nt ++ drop nt (take k (drop from out)) → ((j : ℕ) → j < nt → g j ≡ f (from + j))
+module _ {A : Type 0} (f : ℕ → A) (l : List A) where
+  row-front : (out ys : List A) (from nt k : ℕ) (g : ℕ → A) → out ≡ tab f from ++ drop from l → length out ≤ from + k → ys ≡ tab g nt ++ drop nt (take k (drop from out)) → ((j : ℕ) → j < nt → g j ≡ f (from + j))
       → take from out ++ (ys ++ drop k (drop from out)) ≡ tab f (from + nt) ++ drop (from + nt) l
   row-front out ys from nt k g p r e h =
       let a : take from out ≡ tab f from = ap (take from) p ∙ take_at (tab f from) (drop from l) from (length-tab f from) in
@@ -43,28 +41,17 @@ module _ (f : ℕ → Float) (l : List Float) (n : ℕ) where
       let s : length (drop from out) ≤ k = omega (arith, length-drop from out, r) in
       let z : drop k (drop from out) ≡ [] = drop_of_length-le (drop from out) s in
       let t : drop nt (take k (drop from out)) ≡ drop (from + nt) l = ap (drop nt) (take_all k (drop from out) s ∙ b) ∙ drop-drop nt from l in
-      let y : ys ≡ tab (λ j. f (from + j)) nt ++ drop (from + nt) l = e ∙ ap₂ (λ (u v : List Float). u ++ v) (tab-ext g (λ j. f (from + j)) nt h) t in
-      ap₂ (λ (u v : List Float). u ++ v) a (ap₂ (λ (u v : List Float). u ++ v) y z ∙ append-nil (tab (λ j. f (from + j)) nt ++ drop (from + nt) l))
+      let y : ys ≡ tab (λ j. f (from + j)) nt ++ drop (from + nt) l = e ∙ ap₂ (λ (u v : List A). u ++ v) (tab-ext g (λ j. f (from + j)) nt h) t in
+      ap₂ (λ (u v : List A). u ++ v) a (ap₂ (λ (u v : List A). u ++ v) y z ∙ append-nil (tab (λ j. f (from + j)) nt ++ drop (from + nt) l))
       ∙ sym (append_assoc (tab f from) (tab (λ j. f (from + j)) nt) (drop (from + nt) l))
-      ∙ ap (λ (u : List Float). u ++ drop (from + nt) l) (tab-append f from nt)
+      ∙ ap (λ (u : List A). u ++ drop (from + nt) l) (tab-append f from nt)
 
-  filling-row : (out ys : List Float) (from nt k : ℕ) (g : ℕ → Float) → Filling f l n out from → n ≤ length l → from + nt ≤ n → length out ≤ from + k → ys ≡ tab g nt ++ drop nt (take k (drop from out)) → ((j : ℕ) → j < nt → g j ≡ f (from + j))
-      → Filling f l n (take from out ++ (ys ++ drop k (drop from out))) (from + nt)
-  filling-row out ys from nt k g p h q r e d =
-      let t : take from out ++ (ys ++ drop k (drop from out)) ≡ tab f (from + nt) ++ drop (from + nt) l = row-front out ys from nt k g p.front r e d in
-      record { same = ap length t ∙ filled-length f l (from + nt) (omega (arith, q, h)); most = q; front = t }
-
-pub rows_more : (m : Matrix) (l : List Float) (nd nt i : ℕ) (out ys : List Float) (k : ℕ) (g : ℕ → Float) → Filling (λ q. m (q / nt) (q % nt)) l (nd * nt) out (i * nt) → i < nd → nd * nt ≤ length l → length out ≤ i * nt + k
-    → ys ≡ tab g nt ++ drop nt (take k (drop (i * nt) out)) → ((j : ℕ) → j < nt → g j ≡ m i j) → Filling (λ q. m (q / nt) (q % nt)) l (nd * nt) (take (i * nt) out ++ (ys ++ drop k (drop (i * nt) out))) ((i + 1) * nt)
-rows_more m l nd nt i out ys k g p h q r e d =
+-- the first i rows of a list are by rule
+pub rows_more : {A : Type 0} (m : ℕ → ℕ → A) (l out ys : List A) (nt i k : ℕ) (g : ℕ → A) → out ≡ tab (λ q. m (q / nt) (q % nt)) (i * nt) ++ drop (i * nt) l → length out ≤ i * nt + k
+    → ys ≡ tab g nt ++ drop nt (take k (drop (i * nt) out)) → ((j : ℕ) → j < nt → g j ≡ m i j) → take (i * nt) out ++ (ys ++ drop k (drop (i * nt) out)) ≡ tab (λ q. m (q / nt) (q % nt)) ((i + 1) * nt) ++ drop ((i + 1) * nt) l
+rows_more m l out ys nt i k g p r e d =
     let u : i * nt + nt ≡ (i + 1) * nt = sym (suc-mul i nt) ∙ ap (λ (s : ℕ). s * nt) (sym (add-one i)) in
-    rw u at (filling-row (λ q. m (q / nt) (q % nt)) l (nd * nt) out ys (i * nt) nt k g p q (row_ends nd nt i h) r e (λ j b. d j b ∙ sym (ap₂ m (row_of nt i j b) (column-of nt i j b))))
-
-pub rows_none : (m : Matrix) (l : List Float) (nd nt : ℕ) → Filling (λ q. m (q / nt) (q % nt)) l (nd * nt) l (0 * nt)
-rows_none m l nd nt = rw (zero-mul nt) (filling-none (λ q. m (q / nt) (q % nt)) l (nd * nt))
-
-pub rows-done : (m : Matrix) (l : List Float) (nd nt i : ℕ) (out : List Float) → Filling (λ q. m (q / nt) (q % nt)) l (nd * nt) out (i * nt) → nd ≤ i → out ≡ tab (λ q. m (q / nt) (q % nt)) (nd * nt) ++ drop (nd * nt) l
-rows-done m l nd nt i out p h = filling-done (λ q. m (q / nt) (q % nt)) l (nd * nt) out (i * nt) p (mul-le-mul_right nt h)
+    rw u at (row-front (λ q. m (q / nt) (q % nt)) l out ys (i * nt) nt k g p r e (λ j b. d j b ∙ sym (ap₂ m (row_of nt i j b) (column-of nt i j b))))
 
 -- ---- overlap plus angle term
 

@@ -4,3 +4,4 @@ pub mod Passes
 pub mod Paired
 pub mod Cells
 pub mod Split
+pub mod Lent

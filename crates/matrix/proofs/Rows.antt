@@ -1,6 +1,6 @@
 -- Rows of a product gathered term by term, and rows put one after another. Assumes nothing.
 use Prim.Native.Nat.{ℕ, suc, zero, ◌+◌, ◌-◌, ◌*◌, ◌/◌, ◌%◌, ◌<◌, ◌≤◌}
-use native.Mathlib.Nat.{zero-mul, zero-add, add-zero, not-suc-le-zero, add-sub_cancel_left, mul-add-div_right, mul-add-mod_self_right, add-mul, one-mul, div-eq_of_lt, mod-eq_of_lt, mul-le-mul_right, suc-mul}
+use native.Mathlib.Nat.{zero-mul, zero-add, add-zero, not-suc-le-zero, mul-add-div_right, mul-add-mod_self_right, add-mul, one-mul, div-eq_of_lt, mod-eq_of_lt, mul-le-mul_right}
 use native.Mathlib.Numerals.{add-one}
 use native.Mathlib.Omega.{arith}
 use mathlib.Core.Path.{◌≡◌, refl, ap, sym, ◌∙◌}
@@ -14,17 +14,17 @@ use Rattle.lists.proofs.Tab.{length-tab, get_or-tab, filled-length, tab-append, 
 use Rattle.matrix.specs.Matrix.{sum_to, term, entry_of}
 use Rattle.lists.proofs.Fill.{Filled}
 
--- a place in a matrix of k rows and m columns
-pub in-matrix : (k m l j : ℕ) → l < k → j < m → l * m + j < k * m
-in-matrix k m l j hl hj = omega (arith, mul-le-mul_right m hl, suc-mul l m)
+-- a row of m places is m long
+row_length : (i m : ℕ) → (i + 1) * m - i * m ≡ m
+row_length i m = omega (arith, add-mul i 1 m)
 
--- a row of a matrix of k rows and m columns
-pub row_inside : (k m l : ℕ) → l < k → l * m + m ≤ k * m
-row_inside k m l h = omega (arith, mul-le-mul_right m h, suc-mul l m)
+-- row i as a part of l
+pub part_length : (l : List Float) (i m : ℕ) → (i + 1) * m ≤ length l → length (take ((i + 1) * m - i * m) (drop (i * m) l)) ≡ m
+part_length l i m h = rw (row_length i m) (length-take-le m (drop (i * m) l) (omega (arith, length-drop (i * m) l, add-mul i 1 m)))
 
--- the part of l from i * m to i * m + m
-pub part_length : (l : List Float) (i m : ℕ) → i * m + m ≤ length l → length (take (i * m + m - i * m) (drop (i * m) l)) ≡ m
-part_length l i m h = length-take-le (i * m + m - i * m) (drop (i * m) l) (omega (arith, length-drop (i * m) l, h)) ∙ add-sub_cancel_left (i * m) m
+-- a row is inside a matrix of n rows
+pub row_inside : (n m i : ℕ) → i < n → (i + 1) * m ≤ n * m
+row_inside n m i h = let k : i + 1 ≤ n = omega arith in mul-le-mul_right m k
 
 -- place j of row i, by its row and by its column
 place-row : (m i j : ℕ) → j < m → (i * m + j) / m ≡ i
@@ -49,20 +49,15 @@ module _ (k m : ℕ) (a b : List Float) (i : ℕ) where
   abbrev pub gathered : ℕ → List Float
   gathered l = tab (λ j. sum_to (term k m a b i j) l) m
 
-  first-term : (j : ℕ) → mul binary32 (get_or a (i * k) nan) (get_or b j nan) ≡ sum_to (term k m a b i j) 1
+  pub first-term : (j : ℕ) → mul binary32 (get_or a (i * k) nan) (get_or b j nan) ≡ sum_to (term k m a b i j) 1
   first-term j = simp (add-zero, zero-mul, zero-add)
 
-  pub gathered-one : tab (λ j. mul binary32 (get_or a (i * k) nan) (get_or (take m b) j nan)) m ≡ gathered 1
-  gathered-one = tab-ext _ _ m (λ j h. ap (mul binary32 (get_or a (i * k) nan)) (get_or-take m b j nan h) ∙ first-term j)
-
-  -- entry j of row l of b, as the part of b from l * m to l * m + m
-  part-entry : (l j : ℕ) → j < m → get_or (take (l * m + m - l * m) (drop (l * m) b)) j nan ≡ get_or b (l * m + j) nan
-  part-entry l j h = get_or-take (l * m + m - l * m) (drop (l * m) b) j nan (omega (arith, h)) ∙ get_or-drop (l * m) b j nan
-
-  pub gathered-more : (o : List Float) (l : ℕ) → 0 < l → o ≡ gathered l
-      → tab (λ j. add binary32 (get_or o j nan) (mul binary32 (get_or a (i * k + l) nan) (get_or (take (l * m + m - l * m) (drop (l * m) b)) j nan))) m ≡ gathered (l + 1)
-  gathered-more o l p q = tab-ext _ _ m (λ j h.
-      rw (part-entry l j h, q, get_or-tab (λ j. sum_to (term k m a b i j) l) m nan j h) (sum_more (term k m a b i j) l p))
+  -- one more term of entry j, with b's row l as a part of b
+  pub more-terms : (o : List Float) (l j : ℕ) → 0 < l → o ≡ gathered l → j < m
+      → add binary32 (get_or o j nan) (mul binary32 (get_or a (i * k + l) nan) (get_or (take ((l + 1) * m - l * m) (drop (l * m) b)) j nan)) ≡ sum_to (term k m a b i j) (l + 1)
+  more-terms o l j p q h =
+      rw (row_length l m, get_or-take m (drop (l * m) b) j nan h, get_or-drop (l * m) b j nan, q, get_or-tab (λ j. sum_to (term k m a b i j) l) m nan j h)
+      (sum_more (term k m a b i j) l p)
 
   -- the entries of row i at their places in the product
   pub row-places : tab (entry_of k m a b i) m ≡ tab (λ j. entry_of k m a b ((i * m + j) / m) ((i * m + j) % m)) m
@@ -76,13 +71,13 @@ put-tab f l n m =
     ∙ (sym (append_assoc (tab f n) (tab (λ j. f (n + j)) m) (drop (n + m) l)) ∙ ap (λ (x : List Float). x ++ drop (n + m) l) (tab-append f n m))))
 
 -- row i put in after those before it
-pub filled_row : (f : ℕ → Float) (l o r : List Float) (i m e : ℕ) → e ≡ m → Filled f l o (i * m) → i * m + m ≤ length l → r ≡ tab (λ j. f (i * m + j)) m
-    → Filled f l (put_mid (i * m) e o r) ((i + 1) * m)
-filled_row f l o r i m e w p h q =
+pub filled_row : (f : ℕ → Float) (l o r : List Float) (i m : ℕ) → Filled f l o (i * m) → (i + 1) * m ≤ length l → r ≡ tab (λ j. f (i * m + j)) m
+    → Filled f l (put_mid (i * m) ((i + 1) * m - i * m) o r) ((i + 1) * m)
+filled_row f l o r i m p h q =
     let n : (i + 1) * m ≡ i * m + m = add-mul i 1 m ∙ ap (λ (x : ℕ). i * m + x) (one-mul m) in
-    let t : put_mid (i * m) e o r ≡ tab f (i * m + m) ++ drop (i * m + m) l = rw (w, p.front, q) (put-tab f l (i * m) m) in
-    rw n (record {
-      same = ap length t ∙ filled-length f l (i * m + m) h;
-      inside = h;
+    let t : put_mid (i * m) m o r ≡ tab f (i * m + m) ++ drop (i * m + m) l = rw (p.front, q) (put-tab f l (i * m) m) in
+    rw (row_length i m, n) (record {
+      same = ap length t ∙ filled-length f l (i * m + m) (omega (arith, n));
+      inside = omega (arith, n);
       front = t;
     })

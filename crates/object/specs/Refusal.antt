@@ -1,5 +1,5 @@
 -- Document 01, 'What a call may be told': the number of each refusal. Definitions only.
-use Rattle.std.specs.Prelude.{ℕ}
+use Rattle.std.specs.Prelude.{ℕ, Result, Ok, Err}
 use Rattle.object.specs.declared.Refusal.{Refusal}
 use Rattle.object.specs.declared.Refusal.TheVariants.{UnsoundState, BadSetting, RaggedFrame, CrowdedFrame, ShortAnswer, RunOver, FullTable, BadMatrix, CostOutOfRange}
 
@@ -14,3 +14,8 @@ number_of FullTable = 7
 number_of BadMatrix = 8
 -- document 02, 2.3
 number_of CostOutOfRange = 12
+
+-- the number that the caller of a call is told: 0 where nothing is refused
+abbrev pub told_of : {T : Type 0} → Result T Refusal → ℕ
+told_of (Ok x) = 0
+told_of (Err r) = number_of r

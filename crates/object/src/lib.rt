@@ -2,8 +2,8 @@
 #![tactic(auto)]
 
 ghost use Rattle.std.specs.Prelude.{◌≡◌};
-ghost use Rattle.object.specs.Object.{xyxy_of, rect_of};
-ghost use Rattle.object.specs.Refusal.{number_of};
+ghost use Rattle.object.specs.Object.{xyxy_of, rect_of, corners_of};
+ghost use Rattle.object.specs.Refusal.{number_of, told_of};
 
 // Left upper corner, width and height.
 #[derive(Clone, Copy)]
@@ -61,6 +61,20 @@ pub struct Detection {
     pub score: f32,
 }
 
+// Without its score.
+impl From<Detection> for Corners {
+    ghost from_gives = { λ d c. c ≡ corners_of d };
+
+    fn from(d: Detection) -> Corners {
+        Corners {
+            x1: d.x1,
+            y1: d.y1,
+            x2: d.x2,
+            y2: d.y2,
+        }
+    }
+}
+
 // A rectangle and its score.
 #[derive(Clone, Copy)]
 pub struct Object {
@@ -90,7 +104,7 @@ impl Object {
 }
 
 // Why a call was turned away.
-#[derive(Clone, Copy)]
+#[derive(Clone, Copy, Debug, PartialEq, Eq)]
 pub enum Refusal {
     // A state rule is broken.
     UnsoundState,
@@ -113,18 +127,30 @@ pub enum Refusal {
 }
 
 // The number that a host is told.
-pub fn number(r: Refusal) -> u8
-    ensures { result ≡ number_of r }
+impl From<Refusal> for u8 {
+    ghost from_gives = { λ r n. n ≡ number_of r };
+
+    fn from(r: Refusal) -> u8 {
+        match r {
+            Refusal::UnsoundState => 1,
+            Refusal::BadSetting => 2,
+            Refusal::RaggedFrame => 3,
+            Refusal::CrowdedFrame => 4,
+            Refusal::ShortAnswer => 5,
+            Refusal::RunOver => 6,
+            Refusal::FullTable => 7,
+            Refusal::BadMatrix => 8,
+            Refusal::CostOutOfRange => 12,
+        }
+    }
+}
+
+// The number that the caller of a call is told: 0 where nothing is refused.
+pub fn told<T: Copy>(r: Result<T, Refusal>) -> u64
+    ensures { result ≡ told_of r }
 {
     match r {
-        Refusal::UnsoundState => 1,
-        Refusal::BadSetting => 2,
-        Refusal::RaggedFrame => 3,
-        Refusal::CrowdedFrame => 4,
-        Refusal::ShortAnswer => 5,
-        Refusal::RunOver => 6,
-        Refusal::FullTable => 7,
-        Refusal::BadMatrix => 8,
-        Refusal::CostOutOfRange => 12,
+        Ok(_) => 0,
+        Err(refusal) => u64::from(u8::from(refusal)),
     }
 }

@@ -27,6 +27,12 @@ pub dets-count : (os : List Obj) → (dets_of os).n ≡ length os
 unfolding dets_of
 dets-count os = refl
 
+-- a turn of a loop adds one at most
+pub few-pushed : (q : Bool) (d r : Dets) (o : Detection) (p : ℕ) → r ≡ pick q (pushed d o) d → d.n ≤ p → r.n ≤ p + 1
+unfolding pushed
+few-pushed true d r o p e h = rw e (omega (arith, h))
+few-pushed false d r o p e h = rw e (omega (arith, h))
+
 module _ (t : Obj → Bool) (input : List Float) where
   abbrev passed : ℕ → List Obj
   passed p = keep t (tab (object_at input) p)

@@ -5,12 +5,13 @@ ghost use Rattle.std.specs.Prelude.{◌≡◌, ◌+◌, ◌*◌, ◌≤◌, ◌<
 ghost use Rattle.std.specs.Float.{nan};
 ghost use Rattle.lists.specs.Lists.{pick};
 ghost use Rattle.frame.specs.Objects.{detection_at, objects_of, first_score, spare_score, first_class, spares};
-ghost use Rattle.objects.specs.Dets.{dets_of, pushed};
+ghost use Rattle.objects.specs.Dets.{dets_of, pushed, Passing};
 
 use frame::Settings;
 use object::{Detection, Object, Rect};
 
 // Up to 64 detections, five numbers each: corners and score. Cells past them are NaN.
+// Stays: fixed memory, and the pairing takes the numbers one after another.
 #[derive(Clone, Copy)]
 pub struct Dets {
     pub n: usize,
@@ -35,33 +36,6 @@ fn detection(input: &[f32], p: usize) -> Detection
     }
 }
 
-// One detection more.
-pub fn push(d: Dets, o: Detection) -> Dets
-    requires { d.n < 64 }
-    ensures { result ≡ pushed d o }
-{
-    let at = 5 * d.n;
-    let mut out = d;
-    out.cells[at] = o.x1;
-    out.cells[at + 1] = o.y1;
-    out.cells[at + 2] = o.x2;
-    out.cells[at + 3] = o.y2;
-    out.cells[at + 4] = o.score;
-    out.n = d.n + 1;
-    out
-}
-
-// One detection more where the test passed.
-pub fn push_if(d: Dets, passes: bool, o: Detection) -> Dets
-    requires { d.n < 64 }
-    ensures { result ≡ pick passes (pushed d o) d }
-{
-    if passes {
-        return push(d, o);
-    }
-    d
-}
-
 // What stands in a cell that holds no number.
 pub fn nan() -> f32
     ensures { result ≡ nan }
@@ -69,12 +43,40 @@ pub fn nan() -> f32
     0.0 / 0.0
 }
 
-// No detections.
-pub fn none() -> Dets
-    ensures { result ≡ dets_of [] }
-{
-    let cells = [nan(); 320];
-    Dets { n: 0, cells }
+impl Dets {
+    // No detections.
+    pub fn none() -> Dets
+        ensures { result ≡ dets_of [] }
+    {
+        Dets {
+            n: 0,
+            cells: [nan(); 320],
+        }
+    }
+
+    // One detection more.
+    pub fn push(&mut self, o: Detection)
+        requires { self.old.n < 64 }
+        ensures { self.new ≡ pushed self.old o }
+    {
+        let at = 5 * self.n;
+        self.cells[at] = o.x1;
+        self.cells[at + 1] = o.y1;
+        self.cells[at + 2] = o.x2;
+        self.cells[at + 3] = o.y2;
+        self.cells[at + 4] = o.score;
+        self.n += 1;
+    }
+
+    // One detection more where the test passed.
+    pub fn push_if(&mut self, passes: bool, o: Detection)
+        requires { self.old.n < 64 }
+        ensures { self.new ≡ pick passes (pushed self.old o) self.old }
+    {
+        if passes {
+            self.push(o);
+        }
+    }
 }
 
 fn is_first(s: Settings, score: f32) -> bool
@@ -83,13 +85,24 @@ fn is_first(s: Settings, score: f32) -> bool
     s.det_thresh < score
 }
 
+#[tactic(auto, unfolding(frame::specs::Objects::spare_score))]
 fn is_spare(s: Settings, score: f32) -> bool
     ensures { result ≡ spare_score s score }
 {
-    if is_first(s, score) {
-        return false;
+    !is_first(s, score) && 0.1 < score
+}
+
+// The objects whose score passes, in the order of the frame.
+fn passing<F: Fn(f32) -> bool>(input: &[f32], passes: F) -> Dets
+    requires { (length input.now ≤ 320) × F.IsAlwaysCallable passes }
+    ensures { Passing (F.post passes) input.now result }
+{
+    let mut out = Dets::none();
+    for p in 0..input.len() / 5 {
+        let o = detection(input, p);
+        out.push_if(passes(o.score), o);
     }
-    0.1 < score
+    out
 }
 
 // The first-class objects, in the order of the frame.
@@ -97,15 +110,7 @@ pub fn first_class(s: Settings, input: &[f32]) -> Dets
     requires { length input.now ≤ 320 }
     ensures { result ≡ dets_of (first_class s (objects_of input.now)) }
 {
-    let n = input.len() / 5;
-    let mut out = none();
-    let mut p = 0;
-    while p < n {
-        let o = detection(input, p);
-        out = push_if(out, is_first(s, o.score), o);
-        p += 1;
-    }
-    out
+    passing(input, |score| is_first(s, score))
 }
 
 // The spare objects, in the order of the frame.
@@ -113,13 +118,5 @@ pub fn spare(s: Settings, input: &[f32]) -> Dets
     requires { length input.now ≤ 320 }
     ensures { result ≡ dets_of (spares s (objects_of input.now)) }
 {
-    let n = input.len() / 5;
-    let mut out = none();
-    let mut p = 0;
-    while p < n {
-        let o = detection(input, p);
-        out = push_if(out, is_spare(s, o.score), o);
-        p += 1;
-    }
-    out
+    passing(input, |score| is_spare(s, score))
 }

@@ -1,7 +1,7 @@
 -- The tables and pairs of the code stand for the frame's lists: row 7 and the settled frame are the definition's. Assumes nothing.
+use Rattle.std.specs.Prelude.{Option, None}
 use mathlib.Core.Path.{◌≡◌, refl, sym, ap, ap₂, subst, ◌∙◌}
 use mathlib.Core.Bool.{Bool, true, false}
-use mathlib.Core.Option.{none}
 use mathlib.Core.List.{List, ◌++◌, map}
 use Prim.Native.Nat.{ℕ, ◌+◌, ◌-◌, ◌/◌, ◌≤◌, ◌<◌}
 use native.Mathlib.Omega.{arith}
@@ -10,7 +10,6 @@ use lib.ListN.{length, replicate, length-map}
 use borrow.Author.Tests.{lt-ltb, le-ltb}
 use Rattle.lists.specs.Lists.{every}
 use Rattle.lists.proofs.Tab.{length-tab}
-use Rattle.strack.specs.declared.Kept.{Kept}
 use Rattle.objects.specs.declared.Dets.{Dets}
 use Rattle.objects.specs.Dets.{dets_of, dets_in}
 use Rattle.objects.proofs.Pushing.{dets-count}
@@ -20,7 +19,7 @@ use Rattle.frame.specs.declared.Tracker.{Tracker}
 use Rattle.frame.specs.declared.Answer.{Answer}
 use Rattle.frame.specs.State.{live, state_rules}
 use Rattle.frame.specs.Objects.{object_at, objects_of}
-use Rattle.frame.specs.Rounds.{Work, rounds, kept_of, grant_of}
+use Rattle.frame.specs.Rounds.{Work, rounds, grant_of}
 use Rattle.frame.specs.Frame.{Call, early, Out, tracked_view, predicted_tracks, rounds_over, give_all, births, is_full, settled, accepted_frame}
 use Rattle.frame.proofs.Seats.{rounds-length}
 use Rattle.frame.proofs.Rules.{ranges, Sound, sound, Clear, clear}
@@ -38,6 +37,7 @@ use Rattle.settling.proofs.Ids.{below}
 use Rattle.settling.proofs.Tables.{holds, counts}
 use Rattle.oc_sort_tracker.specs.Refused.{refused_with}
 use Rattle.oc_sort_tracker.proofs.Left.{rounds-few}
+use Rattle.object.specs.declared.Detection.{Detection}
 use Rattle.oc_sort_tracker.proofs.Ready.{low-ids}
 
 module _ (t : Tracker) (input : List Float) where
@@ -81,14 +81,13 @@ module _ (t : Tracker) (input : List Float) where
       pub refused_full : (r : Answer) (boxes : List Float) (ids : List ℕ) → 64 < ts.count + p.left.n → r ≡ refused_with t FullTable → Answered (accepted_frame t input) boxes ids r boxes ids
       refused_full r boxes ids f e = subst (λ (b : Bool). Answered (settled t es w b) boxes ids r boxes ids) (sym (is-full f)) (record {
         outcome = ap (λ (a : Answer). a.outcome) e;
-        count = ap (λ (a : Answer). a.count) e;
         next = ap (λ (a : Answer). a.tracker) e;
         boxes-after = refl;
         ids-after = refl;
       })
 
-      abbrev rest : List Kept
-      rest = replicate (64 - length w.slots) (kept_of none)
+      abbrev rest : List (Option Detection)
+      rest = replicate (64 - length w.slots) None
 
       grants-agree : p.grants ≡ map grant_of w.slots ++ rest
       unfolding grants_of
@@ -97,7 +96,7 @@ module _ (t : Tracker) (input : List Float) where
       all-agree : joined t ts p.grants p.left ≡ give_all t.settings.delta_t es w.slots ++ births t.issued w.left
       all-agree =
           ap₂ (λ (a : List Tracked) (b : List Tracked). a ++ b)
-          (ap₂ (λ (a : List Tracked) (b : List Kept). given_all t.settings.delta_t a b) (holds ts es h) grants-agree ∙ sym (give-all-given t.settings.delta_t es w.slots rest slots-long))
+          (ap₂ (λ (a : List Tracked) (b : List (Option Detection)). given_all t.settings.delta_t a b) (holds ts es h) grants-agree ∙ sym (give-all-given t.settings.delta_t es w.slots rest slots-long))
           (ap (born_of t.issued) (ap dets_in left-agree ∙ dets-in w.left) ∙ sym (births-born t.issued w.left))
 
       settled-agree : settled_on t (joined t ts p.grants p.left) p.left.n ≡ settled t es w false
@@ -110,7 +109,7 @@ module _ (t : Tracker) (input : List Float) where
           subst (λ (b : Bool). Answered (settled t es w b) boxes ids r boxes' ids') (sym (is-not-full f)) (subst (λ (o : Out Tracker). Answered o boxes ids r boxes' ids') settled-agree a)
 
       -- what the last part of the frame needs
-      pub ready : (c : Call) → state_rules t ≡ true → early t.frames c ≡ none → ts.count + p.left.n ≤ 64 → Ready t ts p.left c.boxes c.ids
+      pub ready : (c : Call) → state_rules t ≡ true → early t.frames c ≡ None → ts.count + p.left.n ≤ 64 → Ready t ts p.left c.boxes c.ids
       ready c fine k room =
           let s : Sound t = sound t fine in
           let d : Clear t.frames c = clear t.frames c k in

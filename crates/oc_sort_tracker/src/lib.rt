@@ -1,8 +1,7 @@
 // The tracker on a state by value: oc_sort_tracker.rs, document 01, item 6.
 #![tactic(auto)]
 
-ghost use Rattle.std.specs.Prelude.{◌≡◌, true};
-ghost use Rattle.std.proofs.Math.Option.{none};
+ghost use Rattle.std.specs.Prelude.{◌≡◌, true, None};
 ghost use Rattle.frame.specs.State.{empty_tracker, state_rules};
 ghost use Rattle.frame.specs.Frame.{early, accepted_frame};
 ghost use Rattle.frame.specs.Contract.{MadeBy, call_of, Framed};
@@ -10,15 +9,16 @@ ghost use Rattle.oc_sort_tracker.specs.New.{defaults};
 ghost use Rattle.settling.specs.Settled.{Answered};
 ghost use Rattle.oc_sort_tracker.specs.Refused.{refused_with};
 
-use frame::{Answer, Made, Outcome, Settings, Tracker};
+use frame::{Answer, Made, Settings, Tracker};
 use object::Refusal;
+use tracks::Tracks;
 
 // ---- making a tracker
 
 fn empty(settings: Settings) -> Tracker
     ensures { result ≡ empty_tracker settings }
 {
-    let none = tracks::none();
+    let none = Tracks::none();
     let table = none.table;
     Tracker {
         settings,
@@ -34,16 +34,12 @@ pub fn with_settings(settings: Settings) -> Made
     ensures { MadeBy settings result }
 {
     let tracker = empty(settings);
-    if rules::in_range(settings) {
-        return Made {
-            outcome: Outcome::Accepted,
-            tracker,
-        };
-    }
-    Made {
-        outcome: Outcome::Refused(Refusal::BadSetting),
-        tracker,
-    }
+    let outcome = if rules::in_range(settings) {
+        Ok(())
+    } else {
+        Err(Refusal::BadSetting)
+    };
+    Made { outcome, tracker }
 }
 
 // A tracker with the Rust's defaults.
@@ -63,24 +59,23 @@ pub fn new(det_thresh: f32) -> Made
 
 // ---- a frame
 
-// No reports, and the state as it was.
+// The state as it was.
 fn refused(t: Tracker, refusal: Refusal) -> Answer
     ensures { result ≡ refused_with t refusal }
 {
     Answer {
-        outcome: Outcome::Refused(refusal),
-        count: 0,
+        outcome: Err(refusal),
         tracker: t,
     }
 }
 
 // Prediction, the rounds, and row 7: a frame that no earlier row refuses.
 fn accepted(t: Tracker, input: &[f32], boxes: &mut [f32], ids: &mut [u64]) -> Answer
-    requires { (state_rules t ≡ true) × (early t.frames (call_of input.now boxes.old ids.old) ≡ none) }
+    requires { (state_rules t ≡ true) × (early t.frames (call_of input.now boxes.old ids.old) ≡ None) }
     ensures { Answered (accepted_frame t input.now) boxes.old ids.old result boxes.new ids.new }
 {
     let settings = t.settings;
-    let ts = tracks::predicted(t);
+    let ts = Tracks::predicted(t);
     let table = ts.table;
     let pairing = rounds::paired(settings, ts.count, table, input);
     let left = pairing.left;
@@ -100,7 +95,7 @@ pub fn update(t: Tracker, input: &[f32], boxes: &mut [f32], ids: &mut [u64]) -> 
         return refused(t, Refusal::UnsoundState);
     }
     match rules::early(t.frames, input.len(), boxes.len(), ids.len()) {
-        Outcome::Refused(refusal) => refused(t, refusal),
-        Outcome::Accepted => accepted(t, input, boxes, ids),
+        Err(refusal) => refused(t, refusal),
+        Ok(()) => accepted(t, input, boxes, ids),
     }
 }

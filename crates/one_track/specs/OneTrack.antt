@@ -1,23 +1,17 @@
 -- Document 01, item 6: one track in a frame, as the code keeps it. Definitions only.
-use Rattle.std.specs.Prelude.{Bool, ◌&&◌, ℕ, leb}
+use Rattle.std.specs.Prelude.{Bool, ◌&&◌, ℕ, leb, Option, Some, None}
 use Rattle.object.specs.declared.Detection.{Detection}
-use Rattle.strack.specs.declared.LastBox.{LastBox}
-use Rattle.strack.specs.declared.LastBox.TheVariants.{Unseen, Seen}
-use Rattle.strack.specs.declared.Kept.{Kept}
 use Rattle.strack.specs.declared.Track.{Track}
 use Rattle.strack.specs.Track.{birth_of, track_box, track_miss}
 use Rattle.frame.specs.declared.Tracked.{Tracked}
 use Rattle.frame.specs.Frame.{with_track}
 
 -- the box that was granted, or a miss
-abbrev pub granted : ℕ → LastBox → Track → Track
-granted dt Unseen t = track_miss t
-granted dt (Seen x1 y1 x2 y2 score) t = track_box dt (record { x1 = x1; y1 = y1; x2 = x2; y2 = y2; score = score }) t
+abbrev pub given_to : ℕ → Option Detection → Track → Track
+given_to dt None t = track_miss t
+given_to dt (Some d) t = track_box dt d t
 
-abbrev pub given_to : ℕ → Kept → Track → Track
-given_to dt k t = granted dt k.at t
-
-abbrev pub given_one : ℕ → Kept → Tracked → Tracked
+abbrev pub given_one : ℕ → Option Detection → Tracked → Tracked
 given_one dt k e = with_track e (given_to dt k e.track)
 
 -- a track's gap can be replayed and its streak counted on

@@ -8,16 +8,13 @@ ghost use Rattle.one_track.specs.OneTrack.{givable, given_one, newborn};
 
 use frame::{Settings, Tracked};
 use object::{Corners, Detection};
-use strack::{Direction, Kept, LastBox, ListBox, Track};
+use strack::Track;
 
 // What stands in a cell that holds no track.
 pub fn blank() -> Tracked
     ensures { result ≡ blank }
 {
     let none = strack::no_filter();
-    let unseen = Kept {
-        at: LastBox::Unseen,
-    };
     let track = Track {
         filter: none,
         saved: none,
@@ -25,10 +22,10 @@ pub fn blank() -> Tracked
         age: 0,
         streak: 0,
         since: 0,
-        last: LastBox::Unseen,
-        list: ListBox::Empty,
-        direction: Direction::Unknown,
-        kept: [unseen; 8],
+        last: None,
+        list: None,
+        direction: None,
+        kept: [None; 8],
     };
     Tracked { id: 0, track }
 }
@@ -38,63 +35,37 @@ pub fn blank() -> Tracked
 fn has_nan(b: Corners) -> bool
     ensures { result ≡ has_nan b }
 {
-    if ieee::is_nan(b.x1) {
-        return true;
-    }
-    if ieee::is_nan(b.y1) {
-        return true;
-    }
-    if ieee::is_nan(b.x2) {
-        return true;
-    }
-    ieee::is_nan(b.y2)
+    ieee::is_nan(b.x1) | ieee::is_nan(b.y1) | ieee::is_nan(b.x2) | ieee::is_nan(b.y2)
 }
 
 pub fn predict_one(e: Tracked) -> Tracked
     requires { (e.track.age + 1 < 4294967296) × (e.track.since + 1 < 4294967296) }
     ensures { result ≡ predict_tracked e }
 {
-    let t = e.track;
-    let track = strack::predict(t);
-    Tracked { id: e.id, track }
+    Tracked {
+        id: e.id,
+        track: strack::predict(e.track),
+    }
 }
 
 pub fn is_unbroken(e: Tracked) -> bool
     ensures { result ≡ unbroken e }
 {
-    let t = e.track;
-    let f = t.filter;
-    !has_nan(strack::get_state(f))
+    !has_nan(strack::get_state(e.track.filter))
 }
 
 // ---- a box or a miss
 
 // A track given the box that it was granted, or a miss.
-pub fn give(e: Tracked, k: Kept, delta_t: u32) -> Tracked
+pub fn give(e: Tracked, got: Option<Detection>, delta_t: u32) -> Tracked
     requires { (delta_t ≤ 8) × (givable e ≡ true) }
-    ensures { result ≡ given_one delta_t k e }
+    ensures { result ≡ given_one delta_t got e }
 {
-    let t = e.track;
-    let l = k.at;
-    match l {
-        LastBox::Unseen => Tracked {
-            id: e.id,
-            track: strack::update_none(t),
-        },
-        LastBox::Seen(x1, y1, x2, y2, score) => {
-            let d = Detection {
-                x1,
-                y1,
-                x2,
-                y2,
-                score,
-            };
-            Tracked {
-                id: e.id,
-                track: strack::update(t, delta_t, d),
-            }
-        }
-    }
+    let track = match got {
+        None => strack::update_none(e.track),
+        Some(d) => strack::update(e.track, delta_t, d),
+    };
+    Tracked { id: e.id, track }
 }
 
 // ---- birth and age
@@ -111,6 +82,5 @@ pub fn birth(id: u64, d: Detection) -> Tracked
 pub fn is_young(s: Settings, e: Tracked) -> bool
     ensures { result ≡ is_young s e }
 {
-    let t = e.track;
-    t.since <= s.max_age
+    e.track.since <= s.max_age
 }

@@ -9,20 +9,16 @@ ghost use Rattle.reports.specs.Written.{rect_at, low_id, Written};
 
 use frame::{Settings, Tracked};
 use object::{Corners, Rect};
-use strack::{LastBox, Track};
+use strack::Track;
 use tracks::Tracks;
 
 // A track's last box, or the filter's where it has none.
 fn shown_box(t: Track) -> Corners
     ensures { result ≡ shown_box t.last t }
 {
-    let last = t.last;
-    match last {
-        LastBox::Unseen => {
-            let f = t.filter;
-            strack::get_state(f)
-        }
-        LastBox::Seen(x1, y1, x2, y2, _) => Corners { x1, y1, x2, y2 },
+    match t.last {
+        None => strack::get_state(t.filter),
+        Some(d) => Corners::from(d),
     }
 }
 
@@ -72,9 +68,7 @@ pub fn write(s: Settings, frames: u32, ts: Tracks, boxes: &mut [f32], ids: &mut 
     ensures { Written (reports_of s frames (tracks_in ts)) result boxes.old ids.old boxes.new ids.new }
 {
     let mut n = 0;
-    let mut i = ts.count;
-    while 0 < i {
-        i -= 1;
+    for i in (0..ts.count).rev() {
         let e = ts.table[i];
         let t = e.track;
         n = report_if(is_reported(s, frames, t), e, n, boxes, ids);

@@ -1,7 +1,7 @@
 -- Both orders give the same slots and leave the same objects, unless both rounds hold an overlap above the threshold: one that holds none changes nothing,
 -- first or last. Assumes nothing.
+use Rattle.std.specs.Prelude.{Option, Some, None}
 use mathlib.Core.Path.{◌≡◌, refl, sym, ap, ◌∙◌}
-use mathlib.Core.Option.{Option, none, some}
 use mathlib.Core.List.{List, map}
 use mathlib.Core.Logic.{◌⊎◌, inl, inr}
 use Rattle.lists.specs.Lists.{pick, All}
@@ -61,20 +61,20 @@ module _ (s : Settings) (vs : List View) (os : List Obj) where
 -- ---- the frame
 
 the-frame-at : (t : Tracker) (c : Call) (e : Option Refusal) → frame_at t c e ≡ answer_in_order rounds t c e
-the-frame-at t c (some r) = refl
-the-frame-at t c none = refl
+the-frame-at t c (Some r) = refl
+the-frame-at t c None = refl
 
 same_at : (t : Tracker) (c : Call) → (BothAbove t c → ⊥) → (e : Option Refusal) → answer_in_order rounds t c e ≡ answer_in_order rounds_before t c e
-same_at t c h (some r) = refl
-same_at t c h none =
+same_at t c h (Some r) = refl
+same_at t c h None =
     let es = predicted_tracks (live t) in
     ap (λ (w : Work). settled t es w (is_full es w)) (same-rounds t.settings (map (tracked_view t.settings) es) (objects_of c.input) h)
 
 pub orders-agree : OrdersAgree
 unfolding frame_of frame_in_order
 orders-agree = record {
-  the_frame = λ t c. the-frame-at t c (pick (state_rules t) (early t.frames c) (some UnsoundState));
+  the_frame = λ t c. the-frame-at t c (pick (state_rules t) (early t.frames c) (Some UnsoundState));
   same_answer = λ t c h.
-      let e : Option Refusal = pick (state_rules t) (early t.frames c) (some UnsoundState) in
+      let e : Option Refusal = pick (state_rules t) (early t.frames c) (Some UnsoundState) in
       the-frame-at t c e ∙ same_at t c h e;
 }

@@ -1,7 +1,8 @@
 -- A later round in which no overlap is above the threshold changes nothing; and rounds before it only take tracks away from it. Assumes nothing.
+use Rattle.std.specs.Prelude.{Option, Some, None}
+use Rattle.std.proofs.lemmas.Option.{none-some}
 use mathlib.Core.Path.{◌≡◌, refl, sym, ap, subst, ◌∙◌}
 use mathlib.Core.Bool.{Bool, true, false}
-use mathlib.Core.Option.{Option, none, some, some-ne-none}
 use mathlib.Core.List.{List, [], ◌∷◌, map, Memᴰ}
 use mathlib.Core.Logic.{◌⊎◌, inl, inr}
 use Prim.Native.Nat.{ℕ, zero, suc, ◌<◌}
@@ -69,7 +70,7 @@ module _ (s : Settings) (target : View → Corners) where
 
   -- none of the objects, if the track has no grant
   abbrev pub NoneAbove : List Obj → Slot → Type 0
-  NoneAbove os a = a.got ≡ none → All (λ (o : Obj). exceeds o a.view ≡ false) os
+  NoneAbove os a = a.got ≡ None → All (λ (o : Obj). exceeds o a.view ≡ false) os
 
   -- ---- they stay so, whatever another round grants
 
@@ -78,8 +79,8 @@ module _ (s : Settings) (target : View → Corners) where
   seat-none-above os k (m ∷ ms) [] ss c = c
   seat-none-above os k (negsuc n ∷ ms) (q ∷ qs) ss c = seat-none-above os k ms qs ss c
   seat-none-above os k (pos t ∷ ms) (q ∷ qs) ss c =
-      let a : Slot = record { view = (slot_at ss t).view; got = some (record { round = k; obj = q }) } in
-      seat-none-above os k ms qs (set ss t a) (all_set (NoneAbove os) ss t a c (λ e. absurd (some-ne-none _ e)))
+      let a : Slot = record { view = (slot_at ss t).view; got = Some (record { round = k; obj = q }) } in
+      seat-none-above os k ms qs (set ss t a) (all_set (NoneAbove os) ss t a c (λ e. absurd (none-some _ (sym e))))
 
   -- ---- their round changes nothing
 
@@ -129,8 +130,8 @@ module _ (s : Settings) (target : View → Corners) where
     where
       go : (g : Option Grant) → a.got ≡ g → All (λ (o : Obj). exceeds o a.view ≡ false) os ⊎ ((o : Obj) × Memᴰ o os × T (exceeds o a.view)) → All (NoneAbove os) ss ⊎ OverlapAbove s target ss os
           → All (NoneAbove os) (a ∷ ss) ⊎ OverlapAbove s target (a ∷ ss) os
-      go (some g) e f (inl c) = inl (λ n. absurd (some-ne-none g (sym e ∙ n)), c)
-      go (some g) e f (inr w) = inr (further a ss os w)
-      go none e (inl o) (inl c) = inl (λ n. o, c)
-      go none e (inr u) (inl c) = inr (record { obj = u.0; slot = a; among_objects = u.1; among_tracks = Memᴰ.head refl; ungranted = e; above = u.2 })
-      go none e f (inr w) = inr (further a ss os w)
+      go (Some g) e f (inl c) = inl (λ n. absurd (none-some g (sym n ∙ e)), c)
+      go (Some g) e f (inr w) = inr (further a ss os w)
+      go None e (inl o) (inl c) = inl (λ n. o, c)
+      go None e (inr u) (inl c) = inr (record { obj = u.0; slot = a; among_objects = u.1; among_tracks = Memᴰ.head refl; ungranted = e; above = u.2 })
+      go None e f (inr w) = inr (further a ss os w)

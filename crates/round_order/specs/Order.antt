@@ -1,6 +1,5 @@
 -- Document 02, 2.8: the order of the rounds before it, and the frames in which the new one may answer otherwise. Definitions only.
-use Rattle.std.specs.Prelude.{◌≡◌, T, Float}
-use Rattle.std.proofs.Math.Option.{Option, none, some}
+use Rattle.std.specs.Prelude.{◌≡◌, T, Float, Option, Some, None}
 use mathlib.Core.List.{List, map, Memᴰ}
 use Rattle.std.specs.Float.Ieee.{lt}
 use Rattle.lists.specs.Lists.{pick}
@@ -37,11 +36,11 @@ accepted_in_order order t input =
     settled t es w (is_full es w)
 
 abbrev pub answer_in_order : Order → Tracker → Call → Option Refusal → Out Tracker
-answer_in_order order t c (some r) = record { reply = refused r; next = t }
-answer_in_order order t c none = accepted_in_order order t c.input
+answer_in_order order t c (Some r) = record { reply = refused r; next = t }
+answer_in_order order t c None = accepted_in_order order t c.input
 
 unfoldable pub frame_in_order : Order → Tracker → Call → Out Tracker
-frame_in_order order t c = answer_in_order order t c (pick (state_rules t) (early t.frames c) (some UnsoundState))
+frame_in_order order t c = answer_in_order order t c (pick (state_rules t) (early t.frames c) (Some UnsoundState))
 
 -- ---- overlaps above the threshold
 
@@ -51,7 +50,7 @@ pub record OverlapAbove (s : Settings) (target : View → Corners) (ss : List Sl
   pub slot : Slot
   pub among_objects : Memᴰ obj os
   pub among_tracks : Memᴰ slot ss
-  pub ungranted : slot.got ≡ none
+  pub ungranted : slot.got ≡ None
   pub above : T (lt s.iou_threshold (overlap_of (corners_of obj.det) (target slot.view)))
 
 -- over all tracks left by the first round: some spare with some predicted box, and some first-class object left with some last box

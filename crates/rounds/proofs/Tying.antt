@@ -1,7 +1,7 @@
 -- A round on the arrays is the frame's round: the same marks, so the same grants and the same objects left. Assumes nothing.
+use Rattle.std.specs.Prelude.{Option, None}
 use mathlib.Core.Path.{◌≡◌, refl, sym, ap, ap₂, subst, ◌∙◌}
 use mathlib.Core.Bool.{true}
-use mathlib.Core.Option.{none}
 use mathlib.Core.List.{List, [], ◌∷◌, ◌++◌, map}
 use Prim.Native.Nat.{ℕ, ◌+◌, ◌-◌, ◌≤◌, ◌<◌}
 use native.Mathlib.Omega.{arith}
@@ -14,7 +14,6 @@ use Rattle.lists.proofs.Tab.{length-tab, get_or-tab}
 use Rattle.lists.proofs.All.{map-append, keep_same}
 use Rattle.object.specs.declared.Corners.{Corners}
 use Rattle.object.specs.declared.Detection.{Detection}
-use Rattle.strack.specs.declared.Kept.{Kept}
 use Rattle.lapjv_walk.specs.Marks.{free}
 use Rattle.pair.specs.Angle.{Step}
 use Rattle.matching.specs.Associate.{det_at, corners_at, step_at, overlaps, combined, associate, reassociate}
@@ -23,7 +22,7 @@ use Rattle.matching.specs.Paired.{Paired}
 use Rattle.assoc.proofs.Matching.{kept-paired, match-paired, reassociate-fair}
 use Rattle.frame.specs.declared.Settings.{Settings}
 use Rattle.frame.specs.Objects.{Obj}
-use Rattle.frame.specs.Rounds.{View, Slot, empty_slot, no_corners, slot_at, view_at, det_of, open_from, place_of, seat, left_by, first_round, later_round, kept_of, grant_of}
+use Rattle.frame.specs.Rounds.{View, Slot, empty_slot, no_corners, slot_at, view_at, det_of, open_from, place_of, seat, left_by, first_round, later_round, grant_of}
 use Rattle.objects.specs.declared.Dets.{Dets}
 use Rattle.objects.specs.Dets.{dets_of, dets_in}
 use Rattle.objects.proofs.Cells.{get_or-padding}
@@ -49,7 +48,7 @@ pub reassociate-paired : (thr : Float) (nd nt : ℕ) (det : ℕ → Detection) (
 reassociate-paired thr nd nt det box = (reassociate-fair thr nd nt det box).paired
 
 -- the array of marks names slots below 64 through the open places
-pub all_named : (count : ℕ) (ks : List Kept) (places : Places) (nd : ℕ) (ms marks : List ℤ) → count ≤ 64 → places ≡ places_of (open_in count ks) → marks ≡ ms ++ replicate (64 - nd) free → Paired nd (length (open_in count ks)) ms
+pub all_named : (count : ℕ) (ks : List (Option Detection)) (places : Places) (nd : ℕ) (ms marks : List ℤ) → count ≤ 64 → places ≡ places_of (open_in count ks) → marks ≡ ms ++ replicate (64 - nd) free → Paired nd (length (open_in count ks)) ms
     → All (Names places.at 64) marks
 all_named count ks places nd ms marks h p m q =
     rw (p, m) (marks-name 64 (open_in count ks) (omega (arith, few ks count)) (all-below count 64 h (open_in count ks) (open-below count ks)) nd (64 - nd) ms q)
@@ -80,12 +79,12 @@ module _ (js : List ℕ) (ms : List ℤ) (os : List Obj) (ss : List Slot) (p : P
   left-same = left-more ms (replicate (64 - length os) free) os (omega (arith, p.len)) ∙ sym (left-placed js ms os)
 
 -- what `by_marks` promises
-abbrev pub ByMarks : List ℤ → Places → Dets → List Kept → Pairing → Type 0
+abbrev pub ByMarks : List ℤ → Places → Dets → List (Option Detection) → Pairing → Type 0
 ByMarks marks places d grants r = (r.grants ≡ seated (take d.n (map (place_of places.at) marks)) (dets_in d) grants) × LeftOf marks d r.left
 
 -- ---- a later round
 
-module _ (thr : Float) (boxes targets : List Float) (count : ℕ) (d : Dets) (grants : List Kept) (places : Places) (marks : List ℤ) (r : Pairing)
+module _ (thr : Float) (boxes targets : List Float) (count : ℕ) (d : Dets) (grants : List (Option Detection)) (places : Places) (marks : List ℤ) (r : Pairing)
     (p : places ≡ places_of (open_in count grants))
     (t : targets ≡ boxes_of (map (corners_at boxes) (take places.n places.at)))
     (m : marks ≡ reassociate thr d.n places.n (det_at d.cells) (corners_at targets) ++ replicate (64 - d.n) free)
@@ -104,7 +103,7 @@ module _ (thr : Float) (boxes targets : List Float) (count : ℕ) (d : Dets) (gr
       bs = map (λ j. target (slot_at ss j).view) js
 
       pj : places ≡ places_of js
-      pj = p ∙ ap₂ (λ (c : ℕ) (ks : List Kept). places_of (open_in c ks)) n h ∙ ap places_of (open_is ss)
+      pj = p ∙ ap₂ (λ (c : ℕ) (ks : List (Option Detection)). places_of (open_in c ks)) n h ∙ ap places_of (open_is ss)
 
       tj : corners_at targets ≡ λ j. get_or bs j no_corners
       tj = ap corners_at (t ∙ ap₂ (λ (c : ℕ → Corners) (l : List ℕ). boxes_of (map c l)) f (ap (λ (x : Places). take x.n x.at) pj ∙ places-taken js)) ∙ gathered-at bs
@@ -137,10 +136,10 @@ keep-every [] = refl
 keep-every (x ∷ xs) = ap (λ l. x ∷ l) (keep-every xs)
 
 -- before any grant every slot is open
-pub open-all : (n : ℕ) → open_in n (replicate 64 (kept_of none)) ≡ tab (λ j. j) n
+pub open-all : (n : ℕ) → open_in n (replicate 64 None) ≡ tab (λ j. j) n
 unfolding open_in
 open-all n =
-    keep_same (λ j. is_open (get_or (replicate 64 (kept_of none)) j (kept_of none))) (λ j. true) (λ j. ap is_open (get_or-padding [] 64 j (kept_of none))) (tab (λ j. j) n)
+    keep_same (λ j. is_open (get_or (replicate 64 None) j None)) (λ j. true) (λ j. ap is_open (get_or-padding [] 64 j None)) (tab (λ j. j) n)
     ∙ keep-every (tab (λ j. j) n)
 
 place-itself : (n : ℕ) (m : ℤ) → Below n m → place_of (tab (λ j. j) n) m ≡ m
@@ -151,20 +150,20 @@ places-itself : (n : ℕ) (ms : List ℤ) → All (Below n) ms → map (place_of
 places-itself n [] a = refl
 places-itself n (m ∷ ms) a = ap₂ (λ (x : ℤ) (l : List ℤ). x ∷ l) (place-itself n m a.0) (places-itself n ms a.1)
 
-none-granted : (vs : List View) → map grant_of (map empty_slot vs) ≡ replicate (length vs) (kept_of none)
+none-granted : (vs : List View) → map grant_of (map empty_slot vs) ≡ replicate (length vs) None
 none-granted [] = refl
-none-granted (v ∷ vs) = ap (λ l. kept_of none ∷ l) (none-granted vs)
+none-granted (v ∷ vs) = ap (λ l. None ∷ l) (none-granted vs)
 
-pub no-grants-are : (vs : List View) → length vs ≤ 64 → replicate 64 (kept_of none) ≡ grants_of (map empty_slot vs)
+pub no-grants-are : (vs : List View) → length vs ≤ 64 → replicate 64 None ≡ grants_of (map empty_slot vs)
 unfolding grants_of
 no-grants-are vs h =
     let e : 64 ≡ length vs + (64 - length vs) = omega arith in
-    ap (λ (n : ℕ). replicate n (kept_of none)) e
-    ∙ sym (replicate-append-replicate (length vs) (64 - length vs) (kept_of none))
-    ∙ ap₂ (λ (l : List Kept) (n : ℕ). l ++ replicate (64 - n) (kept_of none)) (sym (none-granted vs)) (sym (length-map vs empty_slot))
+    ap (λ (n : ℕ). replicate n None) e
+    ∙ sym (replicate-append-replicate (length vs) (64 - length vs) None)
+    ∙ ap₂ (λ (l : List (Option Detection)) (n : ℕ). l ++ replicate (64 - n) None) (sym (none-granted vs)) (sym (length-map vs empty_slot))
 
-module _ (s : Settings) (v : Views) (d : Dets) (blank : List Kept) (places : Places) (marks : List ℤ) (r : Pairing)
-    (z : blank ≡ replicate 64 (kept_of none))
+module _ (s : Settings) (v : Views) (d : Dets) (blank : List (Option Detection)) (places : Places) (marks : List ℤ) (r : Pairing)
+    (z : blank ≡ replicate 64 None)
     (p : places ≡ places_of (open_in v.n blank))
     (m : marks ≡ associate s.iou_threshold s.inertia d.n v.n (det_at d.cells) (corners_at v.boxes) (step_at v.directions) (det_at v.previous) ++ replicate (64 - d.n) free)
     (b : ByMarks marks places d blank r)
@@ -186,7 +185,7 @@ module _ (s : Settings) (v : Views) (d : Dets) (blank : List Kept) (places : Pla
       nt = ap (λ (x : Views). x.n) f ∙ views-count vs
 
       pj : places ≡ places_of js
-      pj = p ∙ ap₂ (λ (c : ℕ) (ks : List Kept). places_of (open_in c ks)) nt z ∙ ap places_of (open-all (length vs))
+      pj = p ∙ ap₂ (λ (c : ℕ) (ks : List (Option Detection)). places_of (open_in c ks)) nt z ∙ ap places_of (open-all (length vs))
 
       h : blank ≡ grants_of ss
       h = z ∙ no-grants-are vs (omega (arith, nt))
@@ -225,4 +224,4 @@ module _ (s : Settings) (v : Views) (d : Dets) (blank : List Kept) (places : Pla
       same = places-itself (length vs) ms (paired-below (length os) (length vs) ms o)
 
       below : All (λ j. j < length ss) js
-      below = subst (λ (k : ℕ). All (λ j. j < k) js) (sym (length-map vs empty_slot)) (subst (All (λ j. j < length vs)) (open-all (length vs)) (open-below (length vs) (replicate 64 (kept_of none))))
+      below = subst (λ (k : ℕ). All (λ j. j < k) js) (sym (length-map vs empty_slot)) (subst (All (λ j. j < length vs)) (open-all (length vs)) (open-below (length vs) (replicate 64 None)))

@@ -1,4 +1,5 @@
 -- The three rounds on the arrays, one after another, are the frame's rounds. Assumes nothing.
+use Rattle.std.specs.Prelude.{Option}
 use mathlib.Core.Path.{◌≡◌, refl, sym, ap, ◌∙◌}
 use mathlib.Core.Bool.{Bool, true, false}
 use mathlib.Core.List.{List, [], ◌∷◌, map}
@@ -22,11 +23,11 @@ use Rattle.objects.proofs.Pushing.{dets-count}
 use Rattle.rounds.specs.declared.Pairing.{Pairing}
 use Rattle.views.specs.declared.Views.{Views}
 use Rattle.views.specs.Views.{views_of}
-use Rattle.strack.specs.declared.Kept.{Kept}
 use Rattle.grants.specs.Grants.{grants_of, LeftOf}
 use Rattle.rounds.specs.Pairs.{Pairs, FirstOf, LaterOf, SparesOf}
 use Rattle.views.proofs.Seeing.{views-count, boxes-at, lasts-at}
 use Rattle.grants.proofs.Opening.{take-few}
+use Rattle.object.specs.declared.Detection.{Detection}
 use Rattle.grants.proofs.Leaving.{left-few}
 
 -- ---- views stay
@@ -66,7 +67,7 @@ module _ (ss : List Slot) (vs : List View) (e : views_in ss ≡ vs) where
 
 -- ---- the three rounds
 
-module _ (s : Settings) (vs : List View) (input : List Float) (v : Views) (d : Dets) (r₀ r₁ : Pairing) (grants : List Kept)
+module _ (s : Settings) (vs : List View) (input : List Float) (v : Views) (d : Dets) (r₀ r₁ : Pairing) (grants : List (Option Detection))
     (e : v ≡ views_of vs)
     (f : d ≡ dets_of (first_class s (objects_of input)))
     (h₀ : FirstOf s v d r₀)
@@ -95,7 +96,7 @@ left-none : (ms : List ℤ) → left_by ms [] ≡ []
 left-none [] = refl
 left-none (m ∷ ms) = refl
 
-pub later-nothing : (thr : Float) (boxes : List Float) (count : ℕ) (d : Dets) (grants : List Kept) → d.n ≡ 0 → LaterOf thr boxes count d grants (record { grants = grants; left = d })
+pub later-nothing : (thr : Float) (boxes : List Float) (count : ℕ) (d : Dets) (grants : List (Option Detection)) → d.n ≡ 0 → LaterOf thr boxes count d grants (record { grants = grants; left = d })
 unfolding later_round
 later-nothing thr boxes count d grants z k target s ss os e f n g h = go os (sym (dets-count os) ∙ sym (ap (λ (x : Dets). x.n) g) ∙ z) g
   where
@@ -105,7 +106,7 @@ later-nothing thr boxes count d grants z k target s ss os e f n g h = go os (sym
 
 -- ---- the spare round
 
-pub spares-out : (s : Settings) (input boxes : List Float) (count : ℕ) (grants : List Kept) → s.use_byte ≡ false → SparesOf s input boxes count grants grants
+pub spares-out : (s : Settings) (input boxes : List Float) (count : ℕ) (grants : List (Option Detection)) → s.use_byte ≡ false → SparesOf s input boxes count grants grants
 unfolding later_round
 spares-out s input boxes count grants z ss f n h =
     h
@@ -114,7 +115,7 @@ spares-out s input boxes count grants z ss f n h =
     (ap (λ (b : Bool). (later_round 1 (λ (x : View). x.box) s ss (pick b (spares s (objects_of input)) [])).slots) z
     ∙ seat-none 1 (later_marks (λ (x : View). x.box) s ss []) ss))
 
-pub spares-in : (s : Settings) (input boxes : List Float) (count : ℕ) (grants : List Kept) (d : Dets) (r : Pairing) → s.use_byte ≡ true → d ≡ dets_of (spares s (objects_of input))
+pub spares-in : (s : Settings) (input boxes : List Float) (count : ℕ) (grants : List (Option Detection)) (d : Dets) (r : Pairing) → s.use_byte ≡ true → d ≡ dets_of (spares s (objects_of input))
     → LaterOf s.iou_threshold boxes count d grants r → SparesOf s input boxes count grants r.grants
 spares-in s input boxes count grants d r z g l ss f n h =
     (l 1 (λ (x : View). x.box) s ss (byte_objects s (objects_of input)) refl f n (g ∙ ap (λ (b : Bool). dets_of (pick b (spares s (objects_of input)) [])) (sym z)) h).0

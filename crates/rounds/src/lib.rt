@@ -13,20 +13,20 @@ ghost use Rattle.rounds.specs.Pairs.{Pairs, FirstOf, LaterOf, SparesOf};
 
 use frame::{Settings, Tracked};
 use grants::Places;
-use matching::Marks;
+use matching::{Boxes, Detections, Marks, Motions};
+use object::Detection;
 use objects::Dets;
-use strack::Kept;
 use views::Views;
 
 // What each track was granted, and the first-class objects that no round paired.
 #[derive(Clone, Copy)]
 pub struct Pairing {
-    pub grants: [Kept; 64],
+    pub grants: [Option<Detection>; 64],
     pub left: Dets,
 }
 
 // What marks among the places grant, and what they leave.
-fn by_marks(marks: Marks, places: Places, dets: Dets, grants: [Kept; 64]) -> Pairing
+fn by_marks(marks: Marks, places: Places, dets: Dets, grants: [Option<Detection>; 64]) -> Pairing
     requires { (dets.n ≤ 64) × All (Names places.at 64) marks.at }
     ensures { (result.grants ≡ seated (take dets.n (map (place_of places.at) marks.at)) (dets_in dets) grants) × LeftOf marks.at dets result.left }
 {
@@ -44,19 +44,25 @@ fn first_round(s: Settings, v: Views, dets: Dets) -> Pairing
     requires { (v.n ≤ 64) × (dets.n ≤ 64) }
     ensures { FirstOf s v dets result × ((os : List Obj) → dets ≡ dets_of os → result.left.n ≤ 64) }
 {
-    let cells = dets.cells;
-    let boxes = v.boxes;
-    let directions = v.directions;
-    let previous = v.previous;
+    let previous = Detections {
+        cells: &v.previous,
+        n: v.n,
+    };
     let marks = assoc::associate(
         s.iou_threshold,
         s.inertia,
-        &cells,
-        dets.n,
-        &boxes,
-        &directions,
-        &previous,
-        v.n,
+        Detections {
+            cells: &dets.cells,
+            n: dets.n,
+        },
+        Boxes {
+            cells: &v.boxes,
+            n: v.n,
+        },
+        Motions {
+            directions: &v.directions,
+            previous,
+        },
     );
     let none = grants::no_grants();
     let places = grants::open_places(v.n, none);
@@ -64,19 +70,40 @@ fn first_round(s: Settings, v: Views, dets: Dets) -> Pairing
 }
 
 // These objects and the tracks that are still open, by overlap with one box of each track.
-fn rematched(thr: f32, boxes: [f32; 256], count: usize, dets: Dets, grants: [Kept; 64]) -> Pairing
+fn rematched(
+    thr: f32,
+    boxes: [f32; 256],
+    count: usize,
+    dets: Dets,
+    grants: [Option<Detection>; 64],
+) -> Pairing
     requires { (count ≤ 64) × (dets.n ≤ 64) }
     ensures { LaterOf thr boxes count dets grants result }
 {
     let places = grants::open_places(count, grants);
-    let cells = dets.cells;
     let targets = grants::gather(boxes, places);
-    let marks = assoc::simple_iou_match(thr, &cells, dets.n, &targets, places.n);
+    let marks = assoc::simple_iou_match(
+        thr,
+        Detections {
+            cells: &dets.cells,
+            n: dets.n,
+        },
+        Boxes {
+            cells: &targets,
+            n: places.n,
+        },
+    );
     by_marks(marks, places, dets, grants)
 }
 
 // A later round. Without objects, as in most frames, there is nothing to pair.
-fn later_round(thr: f32, boxes: [f32; 256], count: usize, dets: Dets, grants: [Kept; 64]) -> Pairing
+fn later_round(
+    thr: f32,
+    boxes: [f32; 256],
+    count: usize,
+    dets: Dets,
+    grants: [Option<Detection>; 64],
+) -> Pairing
     requires { (count ≤ 64) × (dets.n ≤ 64) }
     ensures { LaterOf thr boxes count dets grants result }
 {
@@ -92,8 +119,8 @@ fn spare_round(
     boxes: [f32; 256],
     count: usize,
     input: &[f32],
-    grants: [Kept; 64],
-) -> [Kept; 64]
+    grants: [Option<Detection>; 64],
+) -> [Option<Detection>; 64]
     requires { (count ≤ 64) × (length input.now ≤ 320) }
     ensures { SparesOf s input.now boxes count grants result }
 {

@@ -1,12 +1,9 @@
--- The state rules of a list of live tracks, and a test's answer as the call's outcome. Definitions only.
-use Rattle.std.specs.Prelude.{◌≡◌, Bool, ◌&&◌, List, ℕ, ◌*◌, leb, ltb, length}
-use Rattle.std.proofs.Math.Option.{Option, none, some}
+-- The state rules of a list of live tracks, and a test's answer as the call's. Definitions only.
+use Rattle.std.specs.Prelude.{◌≡◌, Bool, ◌&&◌, List, ℕ, ◌*◌, leb, ltb, length, Option, Some, None, Result, Ok, Err, ⊤}
 use Rattle.lists.specs.Lists.{every}
 use Rattle.object.specs.declared.Refusal.{Refusal}
 use Rattle.frame.specs.declared.Settings.{Settings}
 use Rattle.frame.specs.declared.Tracked.{Tracked}
-use Rattle.frame.specs.declared.Outcome.{Outcome}
-use Rattle.frame.specs.declared.Outcome.TheVariants.{Accepted, Refused}
 use Rattle.frame.specs.State.{in_range, rising, track_rules}
 use Rattle.frame.specs.Frame.{Call, early}
 
@@ -23,10 +20,10 @@ abbrev pub sound_from : Settings → ℕ → ℕ → ℕ → List Tracked → Bo
 sound_from s frames issued from es = rising from issued es && every (track_rules s frames) es
 
 -- no refusal: accepted so far
-abbrev pub outcome_at : Option Refusal → Outcome
-outcome_at none = Accepted
-outcome_at (some r) = Refused r
+abbrev pub outcome_at : Option Refusal → Result ⊤ Refusal
+outcome_at None = Ok tt
+outcome_at (Some r) = Err r
 
 -- what every call with these lengths is told
-abbrev pub Told : ℕ → ℕ → ℕ → ℕ → Outcome → Type 0
+abbrev pub Told : ℕ → ℕ → ℕ → ℕ → Result ⊤ Refusal → Type 0
 Told frames input boxes ids r = (c : Call) → length c.input ≡ input → c.boxes ≡ boxes → c.ids ≡ ids → r ≡ outcome_at (early frames c)

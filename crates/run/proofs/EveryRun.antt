@@ -1,7 +1,7 @@
 -- Demand 3 holds of every run: by induction on the list of calls the tracker is the state that the book stands for. Assumes nothing.
+use Rattle.std.specs.Prelude.{Option, Some, None}
 use mathlib.Core.Path.{◌≡◌, refl, sym, ap, ap₂, subst, ◌∙◌}
 use mathlib.Core.Bool.{Bool, true, false, not, ◌||◌}
-use mathlib.Core.Option.{Option, none, some}
 use mathlib.Core.List.{List, [], ◌∷◌, map}
 use Prim.Native.Nat.{ℕ, zero, suc, ◌+◌, ◌*◌, ◌/◌, ◌%◌, ◌≤◌, ◌<◌}
 use native.Mathlib.Omega.{arith}
@@ -11,7 +11,7 @@ use lib.ListN.{length}
 use contract.Lifetimes.{Lfts}
 use Rattle.std.specs.Borrow.{Bor, MutBor}
 use borrow.Author.Tests.{eqb-true, eqb-false, ne_eqb, leb-true, leb-false}
-use Rattle.lent.specs.declared.Told.{Told}
+use Rattle.std.specs.Prelude.{Result, Ok, Err, is_ok, ⊤}
 use Rattle.lists.specs.Lists.{pick, sum_of, All}
 use Rattle.lists.proofs.All.{all-mem, map-map}
 use Rattle.object.specs.declared.Refusal.{Refusal}
@@ -19,8 +19,6 @@ use Rattle.object.specs.declared.Refusal.TheVariants.{UnsoundState, BadSetting, 
 use Rattle.frame.specs.declared.Settings.{Settings}
 use Rattle.frame.specs.declared.Tracked.{Tracked}
 use Rattle.frame.specs.declared.Tracker.{Tracker}
-use Rattle.frame.specs.declared.Outcome.{Outcome}
-use Rattle.frame.specs.declared.Outcome.TheVariants.{Accepted, Refused}
 use Rattle.frame.specs.declared.Answer.{Answer}
 use Rattle.frame.specs.declared.Made.{Made}
 use Rattle.frame.specs.State as State
@@ -40,7 +38,7 @@ use Rattle.run.specs.Run.{Seen, seen_of, seen_in, Event, frame, Run, made_new, m
 use Rattle.run_book.proofs.Sim.{out_of, alike}
 use Rattle.run_book.proofs.Laws.{at_first}
 use Rattle.run_book.proofs.Lines.{LivedEntry, Spanned}
-use Rattle.run_book.proofs.Accepted.{refused-accepted, kept_laws, enter-grown}
+use Rattle.run_book.proofs.Accepted.{kept_laws, enter-grown}
 use Rattle.run.specs.New as new
 use Rattle.run.specs.WithSettings as with_settings
 use Rattle.run.specs.Update as update
@@ -60,15 +58,15 @@ made-tracker : (s : Settings) → (made_of s).tracker ≡ empty_tracker s
 unfolding made_of
 made-tracker s = refl
 
-made-accepted : (s : Settings) → (made_of s).outcome ≡ Accepted → in_range s ≡ true
+made-accepted : (s : Settings) → (made_of s).outcome ≡ Ok tt → in_range s ≡ true
 unfolding made_of
 made-accepted s h = go (in_range s) h
   where
-    go : (b : Bool) → pick b Accepted (Refused BadSetting) ≡ Accepted → b ≡ true
+    go : (b : Bool) → ◌≡◌ {A = Result ⊤ Refusal} (pick b (Ok tt) (Err BadSetting)) (Ok tt) → b ≡ true
     go true e = refl
-    go false e = refused-accepted BadSetting e
+    go false e = absurd (let z : ◌≡◌ {A = ℕ} 0 1 = cc in omega arith)
 
-begun : (q s : Settings) (m : Made) → m ≡ made_of q → m.outcome ≡ Accepted → m.tracker.settings ≡ s → Begun s m.tracker
+begun : (q s : Settings) (m : Made) → m ≡ made_of q → m.outcome ≡ Ok tt → m.tracker.settings ≡ s → Begun s m.tracker
 begun q s m e h k =
     let same : q ≡ s = sym (made-settings q) ∙ ap (λ (x : Made). x.tracker.settings) (sym e) ∙ k in
     record {
@@ -76,10 +74,10 @@ begun q s m e h k =
       fresh = ap (λ (x : Made). x.tracker) e ∙ made-tracker q ∙ ap empty_tracker same;
     }
 
-new-begun : (s : Settings) (κs : Lfts 0) (a : new.Dens κs) (m : Made) (e : new.Exit κs) → new.Learnt κs a m e → m.outcome ≡ Accepted → m.tracker.settings ≡ s → Begun s m.tracker
+new-begun : (s : Settings) (κs : Lfts 0) (a : new.Dens κs) (m : Made) (e : new.Exit κs) → new.Learnt κs a m e → m.outcome ≡ Ok tt → m.tracker.settings ≡ s → Begun s m.tracker
 new-begun s κs a m e h o k = begun (defaults a.0) s m h.made o k
 
-with-begun : (s : Settings) (κs : Lfts 0) (a : with_settings.Dens κs) (m : Made) (e : with_settings.Exit κs) → with_settings.Learnt κs a m e → m.outcome ≡ Accepted → m.tracker.settings ≡ s → Begun s m.tracker
+with-begun : (s : Settings) (κs : Lfts 0) (a : with_settings.Dens κs) (m : Made) (e : with_settings.Exit κs) → with_settings.Learnt κs a m e → m.outcome ≡ Ok tt → m.tracker.settings ≡ s → Begun s m.tracker
 with-begun s κs a m e h o k = begun a.0 s m h.made o k
 
 -- what a caller learns of a frame call is the record `Framed`
@@ -89,7 +87,7 @@ FramedOf t x = Framed t x.input x.boxes x.ids x.answer x.boxes_left x.ids_left
 framed : (t : Tracker) (κs : Lfts 3) (a : update.Dens κs) (r : Answer) (e : update.Exit κs) → update.Learnt κs a r e → a.0 ≡ t → FramedOf t (seen_of κs a r e)
 framed t κs a r e h same = subst (λ (u : Tracker). FramedOf u (seen_of κs a r e)) same h
 
-framed-in : (t : Tracker) (κs : Lfts 4) (a : lent-call.Dens κs) (r : Told) (e : lent-call.Exit κs) → lent-call.Learnt κs a r e → a.0.now ≡ t → FramedOf t (seen_in κs a r e)
+framed-in : (t : Tracker) (κs : Lfts 4) (a : lent-call.Dens κs) (r : Result ℕ Refusal) (e : lent-call.Exit κs) → lent-call.Learnt κs a r e → a.0.now ≡ t → FramedOf t (seen_in κs a r e)
 framed-in t κs a r e h same = subst (λ (u : Tracker). FramedOf u (seen_in κs a r e)) same h
 
 -- a run by what its calls told, whichever they were
@@ -159,31 +157,34 @@ answered {s} (telling {xs} {t} r x f) = (gave s (in-range r) xs x t (state r) (s
 
 -- what a reply of the book comes with
 pub record Came (b : Book) (input : List Float) (o : Out Book) : Type 0 where
-  pub refused_keeps : (r : Refusal) → outcome_of o.reply ≡ Refused r → o.next ≡ b
-  pub never_unsound : outcome_of o.reply ≡ Refused UnsoundState → ⊥
+  pub refused_keeps : (r : Refusal) → outcome_of o.reply ≡ Err r → o.next ≡ b
+  pub never_unsound : outcome_of o.reply ≡ Err UnsoundState → ⊥
   pub inputs : o.next.past ≡ with_input (outcome_of o.reply) input b.past
+
+ok-refused : {A : Type 0} {n : ℕ} {r : Refusal} → ◌≡◌ {A = Result ℕ Refusal} (Ok n) (Err r) → A
+ok-refused e = absurd (let z : ◌≡◌ {A = ℕ} 0 1 = cc in omega arith)
 
 came-full : (s : Settings) (b : Book) (input : List Float) (es : List Entry) (full : Bool) → Came b input (entered s b input es (rounds_of s es input) full)
 came-full s b input es true = record { refused_keeps = λ r e. refl; never_unsound = λ e. let z : ◌≡◌ {A = ℕ} 0 1 = cc in omega arith; inputs = refl }
-came-full s b input es false = record { refused_keeps = λ r e. refused-accepted r (sym e); never_unsound = λ e. refused-accepted UnsoundState (sym e); inputs = refl }
+came-full s b input es false = record { refused_keeps = λ r e. ok-refused e; never_unsound = λ e. ok-refused e; inputs = refl }
 
-not-early : (n : ℕ) (c : Call) → early n c ≡ some UnsoundState → ⊥
+not-early : (n : ℕ) (c : Call) → early n c ≡ Some UnsoundState → ⊥
 unfolding early
 not-early n c h = go (not (eqb (length c.input % 5) 0)) (ltb (64 * 5) (length c.input)) (ltb c.boxes 256 || ltb c.ids 64) (leb 1000000 n) h
   where
-    go : (x y z v : Bool) → pick x (some RaggedFrame) (pick y (some CrowdedFrame) (pick z (some ShortAnswer) (pick v (some RunOver) none))) ≡ some UnsoundState → ⊥
+    go : (x y z v : Bool) → pick x (Some RaggedFrame) (pick y (Some CrowdedFrame) (pick z (Some ShortAnswer) (pick v (Some RunOver) None))) ≡ Some UnsoundState → ⊥
     go true y z v e = let q : ◌≡◌ {A = ℕ} 0 1 = cc in omega arith
     go false true z v e = let q : ◌≡◌ {A = ℕ} 0 1 = cc in omega arith
     go false false true v e = let q : ◌≡◌ {A = ℕ} 0 1 = cc in omega arith
     go false false false true e = let q : ◌≡◌ {A = ℕ} 0 1 = cc in omega arith
     go false false false false e = let q : ◌≡◌ {A = ℕ} 0 1 = cc in omega arith
 
-refused-inj : (r q : Refusal) → ◌≡◌ {A = Outcome} (Refused r) (Refused q) → r ≡ q
+refused-inj : (r q : Refusal) → ◌≡◌ {A = Result ℕ Refusal} (Err r) (Err q) → r ≡ q
 refused-inj r q e = cc
 
 came-at : (s : Settings) (b : Book) (c : Call) (r : Option Refusal) → early b.frames c ≡ r → Came b c.input (enter_at s b c r)
-came-at s b c (some r) h = record { refused_keeps = λ q e. refl; never_unsound = λ e. not-early b.frames c (h ∙ ap some (refused-inj r UnsoundState e)); inputs = refl }
-came-at s b c none h = came-full s b c.input (map (break_entry s) b.entries) (ltb 64 (length (live (map (break_entry s) b.entries)) + length (rounds_of s (map (break_entry s) b.entries) c.input).left))
+came-at s b c (Some r) h = record { refused_keeps = λ q e. refl; never_unsound = λ e. not-early b.frames c (h ∙ ap Some (refused-inj r UnsoundState e)); inputs = refl }
+came-at s b c None h = came-full s b c.input (map (break_entry s) b.entries) (ltb 64 (length (live (map (break_entry s) b.entries)) + length (rounds_of s (map (break_entry s) b.entries) c.input).left))
 
 came : (s : Settings) (b : Book) (c : Call) → Came b c.input (enter s b c)
 unfolding enter
@@ -196,7 +197,7 @@ histories {s} (telling {xs} {t} r x f) =
     let k : Came (book_of s xs) x.input (enter s (book_of s xs) (call_seen x)) = came s (book_of s xs) (call_seen x) in (
       record {
         refused_keeps = λ q e. k.refused_keeps q (sym g.outcome ∙ e);
-        grown = λ e. enter-grown s (book_of s xs) (call_seen x) (laws s (in-range r) xs) (sym g.outcome ∙ e);
+        grown = λ e. enter-grown s (book_of s xs) (call_seen x) (laws s (in-range r) xs) (ap is_ok (sym g.outcome) ∙ e);
         never_unsound = λ e. k.never_unsound (sym g.outcome ∙ e);
       },
       histories r,
@@ -206,7 +207,7 @@ inputs-alike : {s : Settings} {xs : List Event} {t : Tracker} → Told-by s xs t
 inputs-alike (making m) = refl
 inputs-alike {s} (telling {xs} {t} r x f) =
     let g : Gave x (book_reply s xs x) (book_state s (book_of s (frame x ∷ xs))) = gave s (in-range r) xs x t (state r) (stays-sound r) f in
-    (came s (book_of s xs) (call_seen x)).inputs ∙ ap₂ (λ (o : Outcome) (l : List (List Float)). with_input o x.input l) (sym g.outcome) (inputs-alike r)
+    (came s (book_of s xs) (call_seen x)).inputs ∙ ap₂ (λ (o : Result ℕ Refusal) (l : List (List Float)). with_input o x.input l) (sym g.outcome) (inputs-alike r)
 
 -- ---- what the laws say of a frame and place
 
@@ -352,10 +353,10 @@ module _ (t : Tracker) (b : Brought) where
   reply = (frame_of t (call_of b.input b.boxes b.ids)).reply
 
   abbrev answer : Answer
-  answer = record { outcome = outcome_of reply; count = length (reports_in reply); tracker = (frame_of t (call_of b.input b.boxes b.ids)).next }
+  answer = record { outcome = outcome_of reply; tracker = (frame_of t (call_of b.input b.boxes b.ids)).next }
 
   answer-to : Framed t b.input b.boxes b.ids answer (boxes_after reply b.boxes) (ids_after reply b.ids)
-  answer-to = framed-by t b.input b.boxes b.ids answer (boxes_after reply b.boxes) (ids_after reply b.ids) refl refl refl refl refl
+  answer-to = framed-by t b.input b.boxes b.ids answer (boxes_after reply b.boxes) (ids_after reply b.ids) refl refl refl refl
 
   -- the call, and the buffers as it leaves them
   abbrev asked : update.Dens no_lifetimes
@@ -365,9 +366,6 @@ module _ (t : Tracker) (b : Brought) where
   gone = (t, (ref b.input, (mut_ref (boxes_after reply b.boxes), (mut_ref (ids_after reply b.ids), tt))))
 
   -- the same in place
-  abbrev told : Told
-  told = record { outcome = answer.outcome; count = answer.count }
-
   abbrev asked_in : lent-call.Dens no_lifetimes₄
   asked_in = (mut_ref t, (ref b.input, (mut_ref b.boxes, (mut_ref b.ids, tt))))
 
@@ -376,11 +374,11 @@ module _ (t : Tracker) (b : Brought) where
 
   once : {s : Settings} {xs : List Event} → Run s xs t → (way : Bool) → (x : Event) × Run s (x ∷ xs) answer.tracker × (brought_to x ≡ record { in_place = way; input = b.input; boxes = b.boxes; ids = b.ids })
   once r false = (frame (seen_of no_lifetimes asked answer gone), called r no_lifetimes asked answer gone answer-to refl, refl)
-  once r true = (frame (seen_in no_lifetimes₄ asked_in told gone-in), lent r no_lifetimes₄ asked_in told gone-in answer-to refl, refl)
+  once r true = (frame (seen_in no_lifetimes₄ asked_in answer.outcome gone-in), lent r no_lifetimes₄ asked_in answer.outcome gone-in answer-to refl, refl)
 
 pub started : (s : Settings) → in_range s ≡ true → Run s [] (empty_tracker s)
 unfolding made_of
-started s fine = subst (λ (u : Tracker). Run s [] u) (made-tracker s) (made_with tt (s, tt) (made_of s) (s, tt) (made_by s (made_of s) refl) (ap (λ (b : Bool). pick b Accepted (Refused BadSetting)) fine) (made-settings s))
+started s fine = subst (λ (u : Tracker). Run s [] u) (made-tracker s) (made_with tt (s, tt) (made_of s) (s, tt) (made_by s (made_of s) refl) (ap (λ (b : Bool). pick b (Ok tt) (Err BadSetting)) fine) (made-settings s))
 
 exists : (s : Settings) → in_range s ≡ true → (bs : List Brought) → (xs : List Event) × (t : Tracker) × Run s xs t × (map brought_to xs ≡ bs)
 exists s fine [] = ([], empty_tracker s, started s fine, refl)

@@ -1,5 +1,5 @@
 -- What a caller learns of `lent::update_in_place`: its own `ensures`, read off as the prover reads it. Definitions only.
-use Rattle.std.specs.Prelude.{refl}
+use Rattle.std.specs.Prelude.{refl, ℕ, Result}
 use base.Logic.{emp}
 use contract.Lifetimes.{Lfts}
 use denote.Triple.Clauses.{AtExit}
@@ -7,7 +7,7 @@ use borrow.Fn.Claims.{AllOf}
 use borrow.Fn.World.{World, Pr, ArgsD}
 use borrow.Fn.Read.{Read, r_last, no_know, all_models}
 use Rattle.lent.specs.contracts.update_in_place as call
-use Rattle.lent.specs.declared.Told.{Told}
+use Rattle.object.specs.declared.Refusal.{Refusal}
 
 -- what goes in, and the arguments as the call leaves them
 abbrev pub Dens : Lfts 4 → Type 0
@@ -16,7 +16,7 @@ Dens κs = ArgsD call.signature κs
 abbrev pub Exit : Lfts 4 → Type 0
 Exit κs = AtExit call.ended κs
 
-module _ (κs : Lfts 4) (a : Dens κs) (r : Told) (e : Exit κs) where
+module _ (κs : Lfts 4) (a : Dens κs) (r : Result ℕ Refusal) (e : Exit κs) where
   abbrev ensures : (w : World) → Pr w
   ensures w = (call.clauses w.𝓛 w.𝓜.mem w.𝓡.returns κs a).ensures tt r e
 

@@ -1,23 +1,22 @@
 -- Demand 3: a run, its book, and the one claim about every list of calls. Definitions only.
-use Rattle.std.specs.Prelude.{◌≡◌, Bool, true, false, ℕ, ◌/◌, ◌≤◌, ◌<◌, T, Float, length}
+use Rattle.std.specs.Prelude.{◌≡◌, Bool, true, false, ℕ, ◌/◌, ◌≤◌, ◌<◌, T, Float, length, Result, Ok, Err, IsOk}
 use mathlib.Core.List.{List, [], ◌∷◌, map, Memᴰ}
 use contract.Lifetimes.{Lfts}
-use Rattle.lent.specs.declared.Told.{Told}
+use Rattle.std.specs.Result.{result_unwrap_or}
 use Rattle.lists.specs.Lists.{up_from}
 use Rattle.object.specs.declared.Refusal.{Refusal}
 use Rattle.object.specs.declared.Refusal.TheVariants.{UnsoundState}
+use Rattle.object.specs.Refusal.{told_of}
 use Rattle.frame.specs.declared.Settings.{Settings}
 use Rattle.frame.specs.declared.Tracked.{Tracked}
 use Rattle.frame.specs.declared.Tracker.{Tracker}
-use Rattle.frame.specs.declared.Outcome.{Outcome}
-use Rattle.frame.specs.declared.Outcome.TheVariants.{Accepted, Refused}
 use Rattle.frame.specs.declared.Answer.{Answer}
 use Rattle.frame.specs.declared.Made.{Made}
 use Rattle.frame.specs.State as State
 use Rattle.frame.specs.State.{in_range}
 use Rattle.frame.specs.Objects.{detection_at, first_score, spare_score}
 use Rattle.frame.specs.Frame.{Call, Reply, boxes_after, ids_after}
-use Rattle.frame.specs.Contract.{told_of, number_in, outcome_of, reports_in, call_of}
+use Rattle.frame.specs.Contract.{number_in, outcome_of, reports_in, call_of}
 use Rattle.run_book.specs.Book.{Stamped, Entry, Book, none_yet, live, track_of, book_state, enter}
 use Rattle.run_book.specs.Claim.{input_of, times_written, boxes_of, boxes_in_frame, Overlapped, Spans, LineFrames, Because, Lived, Grown}
 use Rattle.run_book.specs.Laws.{score_at}
@@ -51,13 +50,13 @@ seen_of κs a r e = record {
 }
 
 -- the same of `update_in_place`: the answer's tracker is the one that the call left
-abbrev pub seen_in : (κs : Lfts 4) → lent-call.Dens κs → Told → lent-call.Exit κs → Seen
+abbrev pub seen_in : (κs : Lfts 4) → lent-call.Dens κs → Result ℕ Refusal → lent-call.Exit κs → Seen
 seen_in κs a r e = record {
   in_place = true;
   input = a.1.0.now;
   boxes = a.1.1.0.now;
   ids = a.1.1.1.0.now;
-  answer = record { outcome = r.outcome; count = r.count; tracker = e.0.now };
+  answer = record { outcome = r; tracker = e.0.now };
   boxes_left = e.1.1.0.now;
   ids_left = e.1.1.1.0.now;
 }
@@ -69,10 +68,10 @@ pub data Event : Type 0 where
 -- A run, newest call first, by the functions' own contracts: `Learnt` is what a caller learns of a call. It starts from what either making call returned with
 -- its acceptance; each call, by value or in place, gets the tracker that the last one returned or left.
 pub data Run (s : Settings) : List Event → Tracker → Type 0 where
-  made_new : (κs : Lfts 0) (a : new.Dens κs) (m : Made) (e : new.Exit κs) → new.Learnt κs a m e → m.outcome ≡ Accepted → m.tracker.settings ≡ s → Run s [] m.tracker
-  made_with : (κs : Lfts 0) (a : with_settings.Dens κs) (m : Made) (e : with_settings.Exit κs) → with_settings.Learnt κs a m e → m.outcome ≡ Accepted → m.tracker.settings ≡ s → Run s [] m.tracker
+  made_new : (κs : Lfts 0) (a : new.Dens κs) (m : Made) (e : new.Exit κs) → new.Learnt κs a m e → m.outcome ≡ Ok tt → m.tracker.settings ≡ s → Run s [] m.tracker
+  made_with : (κs : Lfts 0) (a : with_settings.Dens κs) (m : Made) (e : with_settings.Exit κs) → with_settings.Learnt κs a m e → m.outcome ≡ Ok tt → m.tracker.settings ≡ s → Run s [] m.tracker
   called : {xs : List Event} {t : Tracker} → Run s xs t → (κs : Lfts 3) (a : update.Dens κs) (r : Answer) (e : update.Exit κs) → update.Learnt κs a r e → a.0 ≡ t → Run s (frame (seen_of κs a r e) ∷ xs) r.tracker
-  lent : {xs : List Event} {t : Tracker} → Run s xs t → (κs : Lfts 4) (a : lent-call.Dens κs) (r : Told) (e : lent-call.Exit κs) → lent-call.Learnt κs a r e → a.0.now ≡ t → Run s (frame (seen_in κs a r e) ∷ xs) e.0.now
+  lent : {xs : List Event} {t : Tracker} → Run s xs t → (κs : Lfts 4) (a : lent-call.Dens κs) (r : Result ℕ Refusal) (e : lent-call.Exit κs) → lent-call.Learnt κs a r e → a.0.now ≡ t → Run s (frame (seen_in κs a r e) ∷ xs) e.0.now
 
 -- ---- the book of the run, from the settings, the inputs and the buffers' lengths alone
 
@@ -92,7 +91,7 @@ pub record Gave (x : Seen) (r : Reply) (t : Tracker) : Type 0 where
   pub outcome : x.answer.outcome ≡ outcome_of r
   -- a refusal's number, 0 with reports
   pub number : told_of x.answer.outcome ≡ number_in r
-  pub count : x.answer.count ≡ length (reports_in r)
+  pub count : result_unwrap_or x.answer.outcome 0 ≡ length (reports_in r)
   pub boxes : x.boxes_left ≡ boxes_after r x.boxes
   pub ids : x.ids_left ≡ ids_after r x.ids
   pub tracker : x.answer.tracker ≡ t
@@ -103,9 +102,9 @@ Answered s [] = Unit {0}
 Answered s (frame x ∷ xs) = Gave x (book_reply s xs x) (book_state s (book_of s (frame x ∷ xs))) × Answered s xs
 
 -- the inputs of the calls answered with reports, newest first
-abbrev pub with_input : Outcome → List Float → List (List Float) → List (List Float)
-with_input Accepted input past = input ∷ past
-with_input (Refused r) input past = past
+abbrev pub with_input : Result ℕ Refusal → List Float → List (List Float) → List (List Float)
+with_input (Ok n) input past = input ∷ past
+with_input (Err r) input past = past
 
 abbrev pub accepted_inputs : List Event → List (List Float)
 accepted_inputs [] = []
@@ -118,11 +117,11 @@ input_at xs n = input_of (accepted_inputs xs) n
 -- what each call did to the entries before it
 pub record Extended (x : Seen) (before after : Book) : Type 0 where
   -- a refused call closes no entry and writes nothing
-  pub refused_keeps : (r : Refusal) → x.answer.outcome ≡ Refused r → after ≡ before
+  pub refused_keeps : (r : Refusal) → x.answer.outcome ≡ Err r → after ≡ before
   -- an accepted one keeps every entry's id and birth; an open one gets exactly one line, or breaks; closed entries stay as they are
-  pub grown : x.answer.outcome ≡ Accepted → Grown after.frames before.entries after.entries
+  pub grown : IsOk x.answer.outcome → Grown after.frames before.entries after.entries
   -- no call of a run is refused as unsound
-  pub never_unsound : x.answer.outcome ≡ Refused UnsoundState → ⊥
+  pub never_unsound : x.answer.outcome ≡ Err UnsoundState → ⊥
 
 abbrev pub Histories : Settings → List Event → Type 0
 Histories s [] = Unit {0}

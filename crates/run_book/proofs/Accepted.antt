@@ -1,13 +1,14 @@
 -- An accepted frame keeps the laws of the book; so does every call. Assumes nothing.
+use Rattle.std.specs.Prelude.{Option, Some, None}
 use mathlib.Core.Path.{◌≡◌, refl, sym, ap, ap₂, subst, ◌∙◌}
 use mathlib.Core.Bool.{Bool, true, false, ◌&&◌}
-use mathlib.Core.Option.{Option, none, some}
 use mathlib.Core.List.{List, [], ◌∷◌, ◌++◌, map}
 use Prim.Native.Nat.{ℕ, suc, ◌+◌, ◌/◌, ◌≤◌}
 use native.Mathlib.Nat.{zero-add}
 use native.Mathlib.Omega.{arith}
 use lib.Dec.{T, ltb}
 use lib.Ieee.{Float}
+use Rattle.std.specs.Prelude.{Err, IsOk}
 use lib.ListN.{length, length-append, length-map}
 use borrow.Author.Tests.{lt-ltb, le-ltb}
 use Rattle.lists.specs.Lists.{pick, sum_of, up_from, All}
@@ -15,8 +16,6 @@ use Rattle.lists.proofs.All.{all_map, all_append, all_any, map-append, sum_same,
 use Rattle.object.specs.declared.Refusal.{Refusal}
 use Rattle.object.specs.declared.Refusal.TheVariants.{FullTable}
 use Rattle.frame.specs.declared.Settings.{Settings}
-use Rattle.frame.specs.declared.Outcome.{Outcome}
-use Rattle.frame.specs.declared.Outcome.TheVariants.{Accepted, Refused}
 use Rattle.frame.specs.State.{in_range}
 use Rattle.frame.specs.Objects.{Obj, detection_at, objects_of, first_score, spare_score, first_class, spares}
 use Rattle.frame.specs.Rounds.{View, Slot, Work, byte_objects}
@@ -34,7 +33,7 @@ use Rattle.run_book.proofs.Lines.{all_both, LivedEntry, Fit, fit-break, fit_line
 use Rattle.run_book.proofs.Places.{at, sum-places, OfInput, objects-of-input}
 use Rattle.run_book.proofs.Laws.{Over, over-line, over-opened, tidy-line, tidy-more, tidy-opened, tidy-status, ShutEntry, shut-break, shut-age, shut-line, shut-opened, GenuineEntry, all-genuine-more, genuine-line, genuine-opened, written_after, hit-now, written-other, written-status, placed-old}
 
-pub refused-accepted : {A : Type 0} (r : Refusal) → ◌≡◌ {A = Outcome} (Refused r) Accepted → A
+refused-accepted : {A : Type 0} (r : Refusal) → IsOk {T = ℕ} (Err r) → A
 refused-accepted r e = absurd (let z : ◌≡◌ {A = ℕ} 0 1 = cc in omega arith)
 
 -- ---- what a place weighs
@@ -226,8 +225,8 @@ module _ (s : Settings) (fine : in_range s ≡ true) (b : Book) (c : Call) (ok :
 -- ---- every call
 
 entered-laws : (s : Settings) → in_range s ≡ true → (b : Book) (c : Call) → Laws s b → (r : Option Refusal) → Laws s (enter_at s b c r).next
-entered-laws s fine b c ok (some r) = ok
-entered-laws s fine b c ok none = go (ltb 64 (length (live es') + length (rounds_of s es' c.input).left))
+entered-laws s fine b c ok (Some r) = ok
+entered-laws s fine b c ok None = go (ltb 64 (length (live es') + length (rounds_of s es' c.input).left))
   where
     es' : List Entry
     es' = map (break_entry s) b.entries
@@ -243,9 +242,9 @@ kept_laws s fine b c ok = entered-laws s fine b c ok (early b.frames c)
 -- ---- growth
 
 -- an accepted call, by its reply
-entered-grown : (s : Settings) (b : Book) (c : Call) → Laws s b → (r : Option Refusal) → outcome_of (enter_at s b c r).reply ≡ Accepted → Grown (enter_at s b c r).next.frames b.entries (enter_at s b c r).next.entries
-entered-grown s b c ok (some r) h = refused-accepted r h
-entered-grown s b c ok none h = go (ltb 64 (length (live es') + length w.left)) h
+entered-grown : (s : Settings) (b : Book) (c : Call) → Laws s b → (r : Option Refusal) → IsOk (outcome_of (enter_at s b c r).reply) → Grown (enter_at s b c r).next.frames b.entries (enter_at s b c r).next.entries
+entered-grown s b c ok (Some r) h = refused-accepted r h
+entered-grown s b c ok None h = go (ltb 64 (length (live es') + length w.left)) h
   where
     es' : List Entry
     es' = map (break_entry s) b.entries
@@ -253,11 +252,11 @@ entered-grown s b c ok none h = go (ltb 64 (length (live es') + length w.left)) 
     w : Work
     w = rounds_of s es' c.input
 
-    go : (full : Bool) → outcome_of (entered s b c.input es' w full).reply ≡ Accepted → Grown (entered s b c.input es' w full).next.frames b.entries (entered s b c.input es' w full).next.entries
+    go : (full : Bool) → IsOk (outcome_of (entered s b c.input es' w full).reply) → Grown (entered s b c.input es' w full).next.frames b.entries (entered s b c.input es' w full).next.entries
     go true q = refused-accepted FullTable q
     go false q = grown-write s b.frames b.entries w.slots (opened (b.frames + 1) (length es') w.left)
         (rounds-length s (map (view_of_entry s) (live es')) (objects_of c.input) ∙ length-map (live es') (view_of_entry s)) (born-opened s b.frames (length es') w.left) (all-current s b.frames b.entries ok.spanned)
 
-pub enter-grown : (s : Settings) (b : Book) (c : Call) → Laws s b → outcome_of (enter s b c).reply ≡ Accepted → Grown (enter s b c).next.frames b.entries (enter s b c).next.entries
+pub enter-grown : (s : Settings) (b : Book) (c : Call) → Laws s b → IsOk (outcome_of (enter s b c).reply) → Grown (enter s b c).next.frames b.entries (enter s b c).next.entries
 unfolding enter
 enter-grown s b c ok h = entered-grown s b c ok (early b.frames c) h

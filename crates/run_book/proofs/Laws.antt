@@ -1,7 +1,7 @@
 -- Every call keeps the laws of the book, whatever it is fed. Assumes nothing.
+use Rattle.std.specs.Prelude.{Option, Some, None}
 use mathlib.Core.Path.{◌≡◌, refl, sym, ap, ap₂, subst, ◌∙◌}
 use mathlib.Core.Bool.{Bool, true, false}
-use mathlib.Core.Option.{Option, none, some}
 use mathlib.Core.List.{List, [], ◌∷◌, ◌++◌, map}
 use Prim.Native.Nat.{ℕ, suc, ◌+◌, ◌/◌, ◌≤◌, ◌<◌}
 use native.Mathlib.Omega.{arith}
@@ -47,11 +47,11 @@ frame-cases n k a c false e h z = (omega arith, λ l. omega (arith, z (omega ari
 
 pub tidy-line : (n : ℕ) (e : Entry) (g : Option Grant) → Tidy n e → Tidy (n + 1) (with_line e (next_line (n + 1) g))
 unfolding boxes_in_frame
-tidy-line n e none t k = go (of_frame k e.birth) (sum_of (line_of_frame k) e.lines) (t k).0 (t k).1
+tidy-line n e None t k = go (of_frame k e.birth) (sum_of (line_of_frame k) e.lines) (t k).0 (t k).1
   where
     go : (a c : ℕ) → (a + c ≤ 1) → (n < k → a + c ≡ 0) → (a + (0 + c) ≤ 1) × (n + 1 < k → a + (0 + c) ≡ 0)
     go a c h z = (omega arith, λ l. omega (arith, z (omega arith)))
-tidy-line n e (some g) t k = frame-cases n k (of_frame k e.birth) (sum_of (line_of_frame k) e.lines) (eqb (n + 1) k) refl (t k).0 (t k).1
+tidy-line n e (Some g) t k = frame-cases n k (of_frame k e.birth) (sum_of (line_of_frame k) e.lines) (eqb (n + 1) k) refl (t k).0 (t k).1
 
 pub tidy-more : (n : ℕ) (e : Entry) → Tidy n e → Tidy (n + 1) e
 tidy-more n e t k = ((t k).0, λ l. (t k).1 (omega arith))
@@ -75,8 +75,8 @@ Over s e = Overlapped s e.id e.birth e.lines
 
 pub over-line : (s : Settings) (n : ℕ) (e : Entry) (v : View) (g : Option Grant) → v ≡ view_of_entry s e → Passed (Meets s) v g → Over s e → Over s (with_line e (next_line n g))
 unfolding view_of_entry
-over-line s n e v none h f o = o
-over-line s n e v (some g) h f o = (subst (λ (u : View). Meets s g.round g.obj u) h f, o)
+over-line s n e v None h f o = o
+over-line s n e v (Some g) h f o = (subst (λ (u : View). Meets s g.round g.obj u) h f, o)
 
 pub over-opened : (s : Settings) (n i : ℕ) (os : List Obj) → All (Over s) (opened n i os)
 over-opened s n i [] = tt
@@ -151,8 +151,8 @@ module _ (input : List Float) (past : List (List Float)) where
       }
 
   pub genuine-line : (n : ℕ) → n ≡ suc (length past) → (e : Entry) (g : Option Grant) → Got (OfInput input) g → GenuineEntry past e → GenuineEntry (input ∷ past) (with_line e (next_line n g))
-  genuine-line n q e none h a = all-genuine-more (boxes_of e.birth e.lines) a
-  genuine-line n q e (some g) h a = (genuine-now n q g.obj h, all-genuine-more (boxes_of e.birth e.lines) a)
+  genuine-line n q e None h a = all-genuine-more (boxes_of e.birth e.lines) a
+  genuine-line n q e (Some g) h a = (genuine-now n q g.obj h, all-genuine-more (boxes_of e.birth e.lines) a)
 
   pub genuine-opened : (n : ℕ) → n ≡ suc (length past) → (i : ℕ) (os : List Obj) → All (OfInput input) os → All (GenuineEntry (input ∷ past)) (opened n i os)
   genuine-opened n q i [] a = tt
@@ -180,8 +180,8 @@ slot-other : (k p n : ℕ) (a : Slot) → (n ≡ k → ⊥) → slot-weight (hit
 slot-other k p n a h = go a.got
   where
     go : (g : Option Grant) → got-weight (hit k p n) g ≡ 0
-    go none = refl
-    go (some g) = hit_other k p n g.obj h
+    go None = refl
+    go (Some g) = hit_other k p n g.obj h
 
 pub written-other : (s : Settings) (n : ℕ) (es : List Entry) (w : Work) (k p : ℕ) → length w.slots ≡ length (live es) → (n ≡ k → ⊥) → times_written k p (entries_after s n es w) ≡ times_written k p es
 written-other s n es w k p h d =

@@ -1,7 +1,7 @@
 -- Every call keeps, of each entry: its lines were written while it was neither broken nor old, and it has one for each frame that it lived through. Assumes nothing.
+use Rattle.std.specs.Prelude.{Option, Some, None}
 use mathlib.Core.Path.{◌≡◌, refl, sym, subst}
 use mathlib.Core.Bool.{Bool, true, false}
-use mathlib.Core.Option.{Option, none, some}
 use mathlib.Core.List.{List, [], ◌∷◌}
 use Prim.Native.Nat.{ℕ, suc, ◌+◌, ◌≤◌}
 use native.Mathlib.Omega.{arith}
@@ -84,8 +84,8 @@ module _ (s : Settings) (m : ℕ) where
       here = subst (λ (q : Status). Between m e q) o h.0
 
       frames : (x : Option Grant) → LineFrames e.birth (with_line e (next_line (m + 1) x)).lines
-      frames none = h.1
-      frames (some x) = (omega (arith, here), h.1)
+      frames None = h.1
+      frames (Some x) = (omega (arith, here), h.1)
 
   pub span-age : (e : Entry) → Spanned m e → Spanned m (age_entry s e)
   span-age e h = (go e.status (is_old s e) h.0, h.1)

@@ -1,8 +1,8 @@
 -- What the three rounds keep: each grant overlapped by the threshold or more in its round, views stay, and no object is lost or doubled.
 -- Assumes nothing.
+use Rattle.std.specs.Prelude.{Option, Some, None}
 use mathlib.Core.Path.{◌≡◌, refl, sym, ap, subst, ◌∙◌}
 use mathlib.Core.Bool.{Bool, true, false, not}
-use mathlib.Core.Option.{Option, none, some}
 use mathlib.Core.List.{List, [], ◌∷◌, map}
 use Prim.Native.Nat.{ℕ, zero, suc, ◌+◌, ◌≤◌, ◌<◌}
 use native.Mathlib.Nat.{not-suc-le-zero, le_of_suc-le-suc, suc_inj}
@@ -39,7 +39,7 @@ unnamed-of t (pos u ∷ ms) h = (λ e. h 0 (omega arith) (ap pos (sym e)), unnam
 
 module _ (ok : Obj → View → Type 0) (ss : List Slot) where
   abbrev Suits : Obj → ℕ → Type 0
-  Suits o t = (t < length ss) × ((slot_at ss t).got ≡ none) × ok o (slot_at ss t).view
+  Suits o t = (t < length ss) × ((slot_at ss t).got ≡ None) × ok o (slot_at ss t).view
 
   seats-of : (ms : List ℤ) (os : List Obj) → length ms ≡ length os
       → ((i t : ℕ) → i < length os → mark_at ms i ≡ pos t → Suits (get_or os i no_obj) t)
@@ -84,10 +84,10 @@ open-rises b (a ∷ ss) i k h l = go a.got i k h l (open-rises (suc b) ss)
     go : (g : Option Grant) (i k : ℕ) → i < k → k < length (unless_granted g b (open_from (suc b) ss))
         → ((i k : ℕ) → i < k → k < length (open_from (suc b) ss) → get_or (open_from (suc b) ss) i 0 < get_or (open_from (suc b) ss) k 0)
         → get_or (unless_granted g b (open_from (suc b) ss)) i 0 < get_or (unless_granted g b (open_from (suc b) ss)) k 0
-    go none i zero h l ih = absurd (not-suc-le-zero h)
-    go none zero (suc k) h l ih = let o : OpenAt (suc b) ss k = open_at (suc b) ss k (le_of_suc-le-suc l) in omega (arith, o.place)
-    go none (suc i) (suc k) h l ih = ih i k (le_of_suc-le-suc h) (le_of_suc-le-suc l)
-    go (some g) i k h l ih = ih i k h l
+    go None i zero h l ih = absurd (not-suc-le-zero h)
+    go None zero (suc k) h l ih = let o : OpenAt (suc b) ss k = open_at (suc b) ss k (le_of_suc-le-suc l) in omega (arith, o.place)
+    go None (suc i) (suc k) h l ih = ih i k (le_of_suc-le-suc h) (le_of_suc-le-suc l)
+    go (Some g) i k h l ih = ih i k h l
 
 open-apart : (ss : List Slot) (i k : ℕ) → i < length (open_from 0 ss) → k < length (open_from 0 ss) → get_or (open_from 0 ss) i 0 ≡ get_or (open_from 0 ss) k 0 → i ≡ k
 open-apart ss i k h l e =

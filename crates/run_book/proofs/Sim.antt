@@ -1,7 +1,8 @@
 -- The frame on the state that a book stands for gives the book's answer, and the state that the next book stands for. Assumes nothing.
+use Rattle.std.specs.Prelude.{Option, Some, None}
+use Rattle.std.specs.Option.{unwrap_or}
 use mathlib.Core.Path.{◌≡◌, refl, sym, ap, ap₂, ◌∙◌}
 use mathlib.Core.Bool.{Bool, true, false, not, ◌&&◌, ◌||◌}
-use mathlib.Core.Option.{Option, none, some}
 use mathlib.Core.List.{List, [], ◌∷◌, ◌++◌, map}
 use mathlib.Core.Logic.{◌≢◌, ◌⊎◌, inl, inr, ⊎_elim}
 use Prim.Native.Nat.{ℕ, zero, suc, ◌+◌, ◌≤◌}
@@ -18,7 +19,6 @@ use Rattle.object.specs.Object.{corners_of}
 use Rattle.object.specs.declared.Refusal.{Refusal}
 use Rattle.object.specs.declared.Refusal.TheVariants.{UnsoundState}
 use Rattle.strack.specs.declared.Track.{Track}
-use Rattle.strack.specs.declared.LastBox.{LastBox}
 use Rattle.strack.specs.Track.{state_box, track_predict, birth_of}
 use Rattle.history.specs.Uncut.{predicted}
 use Rattle.history.specs.Replay.{replay, cut}
@@ -30,10 +30,11 @@ use Rattle.frame.specs.declared.Tracker.{Tracker}
 use Rattle.frame.specs.State.{in_range, unit_range, state_of, state_rules}
 use Rattle.frame.specs.Objects.{Obj, objects_of}
 use Rattle.frame.specs.Rounds.{View, Grant, Slot, Work, rounds}
-use Rattle.frame.specs.Frame.{Call, reports, Out, early, detection_or, step_or, view_of, tracked_view, with_track, predict_tracked, unbroken, predicted_tracks, give, give_all, births, is_reported, report_of, snoc_if, reports_of, is_young, settled, accepted_frame, frame_at, frame_of}
+use Rattle.frame.specs.Frame.{Call, reports, Out, early, placeholder, step_or, view_of, tracked_view, with_track, predict_tracked, unbroken, predicted_tracks, give, give_all, births, is_reported, report_of, snoc_if, reports_of, is_young, settled, accepted_frame, frame_at, frame_of}
 use Rattle.run_book.specs.Book.{Status, open', broken, agedOut, Entry, Book, line_of, replayed, track_of, is_open, live, book_state, closed_by, with_status, breaks, break_entry, is_old, age_entry, view_of_entry, next_line, with_line, written, write, opened, entered, rounds_of, enter_at, enter}
 use Rattle.frame.proofs.StaysSound.{live_of}
 use Rattle.frame.proofs.Seats.{rounds-length}
+use Rattle.object.specs.declared.Detection.{Detection}
 use Rattle.lapjv_walk.proofs.Cases.{and_right}
 
 -- ---- one entry
@@ -46,8 +47,8 @@ module _ (s : Settings) (fine : in_range s ≡ true) where
   -- a grant, or none, does to the predicted track what the line for it does to the replay
   pub given : (n : ℕ) (g : Option Grant) (e : Entry) → with_track (predict_tracked (track_of s e)) (give s.delta_t g (predict_tracked (track_of s e)).track) ≡ track_of s (with_line e (next_line n g))
   unfolding track_of replay
-  given n none e = ap (λ (t : Track). record { id = e.id; track = t }) (sym (cut-missed (replayed s e) (replay-sound s.delta_t e.birth.obj.det (map line_of e.lines))))
-  given n (some g) e = ap (λ (t : Track). record { id = e.id; track = t }) (sym (cut-boxed s.delta_t eight g.obj.det (replayed s e) (replay-sound s.delta_t e.birth.obj.det (map line_of e.lines))))
+  given n None e = ap (λ (t : Track). record { id = e.id; track = t }) (sym (cut-missed (replayed s e) (replay-sound s.delta_t e.birth.obj.det (map line_of e.lines))))
+  given n (Some g) e = ap (λ (t : Track). record { id = e.id; track = t }) (sym (cut-boxed s.delta_t eight g.obj.det (replayed s e) (replay-sound s.delta_t e.birth.obj.det (map line_of e.lines))))
 
   pub breaks-alike : (e : Entry) → unbroken (predict_tracked (track_of s e)) ≡ not (breaks s e)
   unfolding track_of breaks cut track_predict predicted
@@ -55,11 +56,11 @@ module _ (s : Settings) (fine : in_range s ≡ true) where
 
   pub views-alike : (e : Entry) → tracked_view s (predict_tracked (track_of s e)) ≡ view_of_entry s e
   unfolding track_of view_of view_of_entry cut track_predict predicted
-  views-alike e = ap (λ (l : LastBox). record {
+  views-alike e = ap (λ (l : Option Detection). record {
     box = state_box (predicted (replayed s e)).filter;
     direction = step_or (replayed s e).direction;
-    last = corners_of (detection_or (replayed s e).last);
-    previous = detection_or l;
+    last = corners_of (unwrap_or (replayed s e).last placeholder);
+    previous = unwrap_or l placeholder;
   })
       (sym (k-previous-cut s.delta_t eight (replayed s e) (replay-sound s.delta_t e.birth.obj.det (map line_of e.lines))))
 
@@ -253,8 +254,8 @@ module _ (s : Settings) (fine : in_range s ≡ true) (b : Book) (c : Call) where
       ∙ ap (over (map (foretold s fine) (live es'))) foreseen-views
 
   enter-at : (r : Option Refusal) → frame_at (book_state s b) c r ≡ out_of s (enter_at s b c r)
-  enter-at (some r) = refl
-  enter-at none =
+  enter-at (Some r) = refl
+  enter-at None =
       let w : Work = rounds_of s es' c.input in
       let l : length (map (foretold s fine) (live es')) ≡ length (live es') = length-map (live es') (foretold s fine) in
       accepted-over
@@ -269,6 +270,6 @@ module _ (s : Settings) (fine : in_range s ≡ true) (b : Book) (c : Call) where
   pub alike : state_rules (book_state s b) ≡ true → frame_of (book_state s b) c ≡ out_of s (enter s b c)
   unfolding frame_of enter
   alike h =
-      ap (λ (t : Bool). frame_at (book_state s b) c (pick t (early (book_state s b).frames c) (some UnsoundState))) h
+      ap (λ (t : Bool). frame_at (book_state s b) c (pick t (early (book_state s b).frames c) (Some UnsoundState))) h
       ∙ ap (λ (n : ℕ). frame_at (book_state s b) c (early n c)) frames-alike
       ∙ enter-at (early b.frames c)

@@ -1,7 +1,7 @@
 -- What writing a frame into the book does, entry by entry: ids, counts, growth, and any property that each line keeps. Assumes nothing.
+use Rattle.std.specs.Prelude.{Option, Some, None}
 use mathlib.Core.Path.{◌≡◌, refl, sym, ap, subst, ◌∙◌}
 use mathlib.Core.Bool.{Bool, true, false}
-use mathlib.Core.Option.{Option, none, some}
 use mathlib.Core.List.{List, [], ◌∷◌, ◌++◌, map, nil≢cons, head-eq_of_cons-eq, tail-eq_of_cons-eq}
 use mathlib.Core.Logic.{◌≢◌}
 use Prim.Native.Nat.{ℕ, suc, ◌+◌}
@@ -67,8 +67,8 @@ abbrev pub hit : ℕ → ℕ → ℕ → Obj → ℕ
 hit k p n o = is_at k p (record { frame = n; obj = o })
 
 line-weight : (k p n : ℕ) (g : Option Grant) → in_line k p (next_line n g) ≡ got-weight (hit k p n) g
-line-weight k p n none = refl
-line-weight k p n (some g) = refl
+line-weight k p n None = refl
+line-weight k p n (Some g) = refl
 
 abbrev Counts : ℕ → ℕ → ℕ → List Entry → List Slot → Type 0
 Counts k p n es ss = sum_of (in_entry k p) (write n es ss) ≡ sum_of (in_entry k p) es + sum_of (slot-weight (hit k p n)) ss

@@ -1,7 +1,7 @@
 -- Document 01, 'Demand 3's book': what a run comes to, from its settings, inputs and buffer lengths alone. Nothing here comes from the tracker's state.
 -- Definitions only.
-use Rattle.std.specs.Prelude.{Bool, true, false, not, List, [], ◌∷◌, ◌++◌, map, ℕ, suc, ◌+◌, leb, ltb, Float, length}
-use Rattle.std.proofs.Math.Option.{Option, none, some}
+use Rattle.std.specs.Prelude.{Bool, true, false, not, List, [], ◌∷◌, ◌++◌, map, ℕ, suc, ◌+◌, leb, ltb, Float, length, Option, Some, None}
+use Rattle.std.specs.Option.{unwrap_or}
 use Rattle.lists.specs.Lists.{keep}
 use Rattle.object.specs.Object.{corners_of}
 use Rattle.object.specs.declared.Refusal.{Refusal}
@@ -16,7 +16,7 @@ use Rattle.frame.specs.declared.Tracker.{Tracker}
 use Rattle.frame.specs.State.{state_of}
 use Rattle.frame.specs.Objects.{Obj, objects_of}
 use Rattle.frame.specs.Rounds.{View, Grant, Slot, Work, rounds}
-use Rattle.frame.specs.Frame.{Call, refused, reports, Out, early, has_nan, detection_or, step_or, reports_of}
+use Rattle.frame.specs.Frame.{Call, refused, reports, Out, early, has_nan, placeholder, step_or, reports_of}
 
 -- ---- entries
 
@@ -115,14 +115,14 @@ view_of_entry s e =
     record {
       box = state_box w.filter;
       direction = step_or w.direction;
-      last = corners_of (detection_or w.last);
-      previous = detection_or (k_previous_obs s.delta_t w);
+      last = corners_of (unwrap_or w.last placeholder);
+      previous = unwrap_or (k_previous_obs s.delta_t w) placeholder;
     }
 
 -- a paired object's box is its entry's next line; an entry without one gets a miss
 abbrev pub next_line : ℕ → Option Grant → Line
-next_line n none = miss
-next_line n (some g) = box g.round (record { frame = n; obj = g.obj })
+next_line n None = miss
+next_line n (Some g) = box g.round (record { frame = n; obj = g.obj })
 
 abbrev pub with_line : Entry → Line → Entry
 with_line e l = record { id = e.id; birth = e.birth; lines = l ∷ e.lines; status = e.status }
@@ -159,8 +159,8 @@ abbrev pub rounds_of : Settings → List Entry → List Float → Work
 rounds_of s es input = rounds s (map (view_of_entry s) (live es)) (objects_of input)
 
 abbrev pub enter_at : Settings → Book → Call → Option Refusal → Out Book
-enter_at s b c (some r) = record { reply = refused r; next = b }
-enter_at s b c none =
+enter_at s b c (Some r) = record { reply = refused r; next = b }
+enter_at s b c None =
     let es = map (break_entry s) b.entries in
     let w = rounds_of s es c.input in
     entered s b c.input es w (ltb 64 (length (live es) + length w.left))

@@ -1,4 +1,5 @@
 -- After grants and births every id fits. Assumes nothing.
+use Rattle.std.specs.Prelude.{Option}
 use mathlib.Core.Path.{◌≡◌, refl}
 use mathlib.Core.Bool.{Bool, true}
 use mathlib.Core.List.{List, [], ◌∷◌, ◌++◌}
@@ -9,7 +10,6 @@ use lib.ListN.{length}
 use borrow.Author.Tests.{ltb-true, lt-ltb}
 use Rattle.lists.specs.Lists.{every}
 use Rattle.object.specs.declared.Detection.{Detection}
-use Rattle.strack.specs.declared.Kept.{Kept}
 use Rattle.frame.specs.declared.Tracked.{Tracked}
 use Rattle.lapjv_walk.proofs.Cases.{and_left, and_right}
 use Rattle.reports.specs.Written.{low_id}
@@ -22,7 +22,7 @@ lower : (n : ℕ) → n ≤ 64000000 → (e : Tracked) → below n e ≡ true �
 unfolding low_id
 lower n l e h = let b : e.id < n = ltb-true e.id n h in lt-ltb e.id 64000000 (omega (arith, b, l))
 
-low-given : (n : ℕ) → n ≤ 64000000 → (dt : ℕ) (es : List Tracked) (ks : List Kept) (rest : List Tracked) → every (below n) es ≡ true → every low_id rest ≡ true → every low_id (given_all dt es ks ++ rest) ≡ true
+low-given : (n : ℕ) → n ≤ 64000000 → (dt : ℕ) (es : List Tracked) (ks : List (Option Detection)) (rest : List Tracked) → every (below n) es ≡ true → every low_id rest ≡ true → every low_id (given_all dt es ks ++ rest) ≡ true
 unfolding low_id
 low-given n l dt [] ks rest h r = r
 low-given n l dt (e ∷ es) [] rest h r = r
@@ -33,5 +33,5 @@ unfolding low_id
 low-born n [] h = refl
 low-born n (d ∷ ds) h = rw (lt-ltb n 64000000 (omega arith)) (low-born (suc n) ds (omega arith))
 
-pub low-joined : (n dt : ℕ) (es : List Tracked) (ks : List Kept) (ds : List Detection) → every (below n) es ≡ true → n + length ds ≤ 64000000 → every low_id (given_all dt es ks ++ born_of n ds) ≡ true
+pub low-joined : (n dt : ℕ) (es : List Tracked) (ks : List (Option Detection)) (ds : List Detection) → every (below n) es ≡ true → n + length ds ≤ 64000000 → every low_id (given_all dt es ks ++ born_of n ds) ≡ true
 low-joined n dt es ks ds h l = low-given n (omega arith) dt es ks (born_of n ds) h (low-born n ds l)

@@ -1,4 +1,5 @@
 -- The last part of a frame: its tables, one after another, are the definition's lists. Assumes nothing.
+use Rattle.std.specs.Prelude.{Option}
 use mathlib.Core.Path.{◌≡◌, sym, ap, subst, ◌∙◌}
 use mathlib.Core.Bool.{true}
 use mathlib.Core.List.{List, ◌++◌}
@@ -9,12 +10,11 @@ use lib.ListN.{length, length-append, length-take}
 use Rattle.lists.specs.Lists.{keep, every}
 use Rattle.lists.proofs.Tab.{length-tab}
 use Rattle.matching.specs.Associate.{det_at}
-use Rattle.strack.specs.declared.Kept.{Kept}
 use Rattle.objects.specs.declared.Dets.{Dets}
 use Rattle.frame.specs.declared.Tracked.{Tracked}
 use Rattle.frame.specs.declared.Tracker.{Tracker}
 use Rattle.frame.specs.declared.Answer.{Answer}
-use Rattle.frame.specs.declared.Outcome.TheVariants.{Accepted}
+use Rattle.std.specs.Prelude.{Ok}
 use Rattle.frame.specs.State.{state_of}
 use Rattle.frame.specs.Frame.{reports_of, is_young}
 use Rattle.reports.specs.Written.{low_id, Written}
@@ -23,6 +23,7 @@ use Rattle.objects.specs.Dets.{dets_in}
 use Rattle.tracks.specs.Tracks.{tracks_of, tracks_in, given_all, born_of}
 use Rattle.tracks.proofs.Table.{tracks-count, tracks-in, few-given, length-born}
 use Rattle.settling.specs.Settled.{Answered, joined, settled_on, Ready}
+use Rattle.object.specs.declared.Detection.{Detection}
 use Rattle.settling.proofs.Ids.{low-joined}
 
 -- a table with blank cells past its tracks
@@ -35,7 +36,7 @@ holds w es e = ap tracks_in e ∙ tracks-in es
 pub counts : (w : Tracks) (es : List Tracked) → w ≡ tracks_of es → w.count ≡ length es
 counts w es e = ap (λ (x : Tracks). x.count) e ∙ tracks-count es
 
-module _ (t : Tracker) (ts : Tracks) (ks : List Kept) (left : Dets) (b i : ℕ) (ok : Ready t ts left b i) where
+module _ (t : Tracker) (ts : Tracks) (ks : List (Option Detection)) (left : Dets) (b i : ℕ) (ok : Ready t ts left b i) where
   abbrev given : List Tracked
   given = given_all t.settings.delta_t (tracks_in ts) ks
 
@@ -61,7 +62,7 @@ module _ (t : Tracker) (ts : Tracks) (ks : List Kept) (left : Dets) (b i : ℕ) 
 
     pub answered : (r : Answer) (n : ℕ) (y : Tracks) (boxes boxes' : List Float) (ids ids' : List ℕ) → y ≡ tracks_of (keep (is_young t.settings) (tracks_in all))
         → Written (reports_of t.settings (t.frames + 1) (tracks_in all)) n boxes ids boxes' ids'
-        → r ≡ record { outcome = Accepted; count = n; tracker = record { settings = t.settings; frames = t.frames + 1; issued = t.issued + left.n; count = y.count; table = y.table } }
+        → r ≡ record { outcome = Ok n; tracker = record { settings = t.settings; frames = t.frames + 1; issued = t.issued + left.n; count = y.count; table = y.table } }
         → Answered (settled_on t (joined t ts ks left) left.n) boxes ids r boxes' ids'
     unfolding settled_on state_of tracks_of
     answered r n y boxes boxes' ids ids' h w q =
@@ -70,8 +71,7 @@ module _ (t : Tracker) (ts : Tracks) (ks : List Kept) (left : Dets) (b i : ℕ) 
         = subst (λ (l : List Tracked). Written (reports_of t.settings (t.frames + 1) l) n boxes ids boxes' ids') j w in
         let k : y ≡ tracks_of (keep (is_young t.settings) (joined t ts ks left)) = h ∙ ap (λ (l : List Tracked). tracks_of (keep (is_young t.settings) l)) j in
         record {
-          outcome = ap (λ (a : Answer). a.outcome) q;
-          count = ap (λ (a : Answer). a.count) q ∙ v.count;
+          outcome = ap (λ (a : Answer). a.outcome) q ∙ ap Ok v.count;
           next = ap (λ (a : Answer). a.tracker) q ∙ ap (λ (x : Tracks). record { settings = t.settings; frames = t.frames + 1; issued = t.issued + left.n; count = x.count; table = x.table }) k;
           boxes-after = v.boxes-after;
           ids-after = v.ids-after;

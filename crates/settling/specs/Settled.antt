@@ -1,29 +1,28 @@
 -- A frame's answer, and what its last part needs and does. Definitions only.
-use Rattle.std.specs.Prelude.{◌≡◌, true, List, ◌++◌, ℕ, ◌+◌, ◌≤◌, ◌<◌, ltb, Float, length}
+use Rattle.std.specs.Prelude.{◌≡◌, true, List, ◌++◌, ℕ, ◌+◌, ◌≤◌, ◌<◌, ltb, Float, Option}
 use Rattle.lists.specs.Lists.{keep, every}
-use Rattle.strack.specs.declared.Kept.{Kept}
 use Rattle.objects.specs.declared.Dets.{Dets}
 use Rattle.frame.specs.declared.Tracked.{Tracked}
 use Rattle.frame.specs.declared.Tracker.{Tracker}
 use Rattle.frame.specs.declared.Answer.{Answer}
 use Rattle.frame.specs.State.{state_of}
 use Rattle.frame.specs.Frame.{reports, Out, reports_of, is_young, boxes_after, ids_after}
-use Rattle.frame.specs.Contract.{outcome_of, reports_in}
+use Rattle.frame.specs.Contract.{outcome_of}
 use Rattle.tracks.specs.declared.Tracks.{Tracks}
 use Rattle.objects.specs.Dets.{dets_in}
 use Rattle.one_track.specs.OneTrack.{givable}
+use Rattle.object.specs.declared.Detection.{Detection}
 use Rattle.tracks.specs.Tracks.{tracks_in, given_all, born_of}
 
 -- r and the buffers are the answer o, every cell
 pub record Answered (o : Out Tracker) (boxes : List Float) (ids : List ℕ) (r : Answer) (boxes' : List Float) (ids' : List ℕ) : Type 0 where
   pub outcome : r.outcome ≡ outcome_of o.reply
-  pub count : r.count ≡ length (reports_in o.reply)
   pub next : r.tracker ≡ o.next
   pub boxes-after : boxes' ≡ boxes_after o.reply boxes
   pub ids-after : ids' ≡ ids_after o.reply ids
 
 -- the tracks after grants, misses and births
-abbrev pub joined : Tracker → Tracks → List Kept → Dets → List Tracked
+abbrev pub joined : Tracker → Tracks → List (Option Detection) → Dets → List Tracked
 joined t ts grants left = given_all t.settings.delta_t (tracks_in ts) grants ++ born_of t.issued (dets_in left)
 
 -- reports and ageing over all tracks, n of them newborn

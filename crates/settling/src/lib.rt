@@ -4,15 +4,15 @@
 ghost use Rattle.std.specs.Prelude.{length};
 ghost use Rattle.settling.specs.Settled.{Answered, joined, settled_on, Ready};
 
-use frame::{Answer, Outcome, Tracker};
+use frame::{Answer, Tracker};
+use object::Detection;
 use objects::Dets;
-use strack::Kept;
 use tracks::Tracks;
 
 pub fn settled(
     t: Tracker,
     ts: Tracks,
-    grants: [Kept; 64],
+    grants: [Option<Detection>; 64],
     left: Dets,
     boxes: &mut [f32],
     ids: &mut [u64],
@@ -21,11 +21,11 @@ pub fn settled(
     ensures { Answered (settled_on t (joined t ts grants left) left.n) boxes.old ids.old result boxes.new ids.new }
 {
     let settings = t.settings;
-    let given = tracks::given(ts, grants, settings.delta_t);
-    let all = tracks::born(given, left, t.issued);
+    let given = ts.given(grants, settings.delta_t);
+    let all = given.born(left, t.issued);
     let frames = t.frames + 1;
     let reported = reports::write(settings, frames, all, boxes, ids);
-    let young = tracks::aged(all, settings);
+    let young = all.aged(settings);
     let table = young.table;
     let next = Tracker {
         settings,
@@ -35,8 +35,7 @@ pub fn settled(
         table,
     };
     Answer {
-        outcome: Outcome::Accepted,
-        count: reported,
+        outcome: Ok(reported),
         tracker: next,
     }
 }

@@ -2,132 +2,103 @@
 // items 3 and 6.
 #![tactic(auto)]
 
-ghost use Rattle.std.specs.Prelude.{◌≡◌, ◌++◌, ◌+◌, ◌-◌, ◌*◌, ◌≤◌, ◌<◌, pos, length, replicate};
-ghost use Rattle.lists.specs.Lists.{pick, tab};
+ghost use Rattle.std.specs.Prelude.{◌≡◌, Bool, ◌++◌, ℕ, ◌-◌, ◌<◌, ◌≤◌, pos, replicate};
+ghost use Rattle.lists.specs.Lists.{tab};
 ghost use Rattle.lapjv_walk.specs.Marks.{free};
-ghost use Rattle.matching.specs.Matching.{above_of, count_of, fullest, larger, passing, shortcut, some_above};
-ghost use Rattle.matching.specs.Cells.{entry_at};
+ghost use Rattle.matching.specs.Matching.{above_of, count_of, fullest, passing, shortcut, some_above};
+ghost use Rattle.matching.specs.Lent.{matrix_of};
 
-use matching::Marks;
+use matching::{Grid, Marks, marks_by};
 
 // ---- overlaps above the threshold
 
-fn one_if(b: bool) -> usize
-    ensures { result ≡ pick b 1 0 }
+// How many of the first n pass.
+fn count<F: Fn(usize) -> bool>(n: usize, passes: F) -> usize
+    requires few { n ≤ 64 }
+    requires called { (i : ℕ) → i < n → F.pre passes i }
+    ensures { (p : ℕ → Bool) → ((i : ℕ) (b : Bool) → i < n → F.post passes i b → b ≡ p i) → result ≡ count_of p n }
 {
-    if b { 1 } else { 0 }
+    let mut total = 0;
+    for i in 0..n {
+        if passes(i) {
+            total += 1;
+        }
+    }
+    total
+}
+
+// The largest of the first n numbers.
+fn largest<F: Fn(usize) -> usize>(n: usize, number: F) -> usize
+    requires { (i : ℕ) → i < n → F.pre number i }
+    ensures { (f : ℕ → ℕ) → ((i k : ℕ) → i < n → F.post number i k → k ≡ f i) → result ≡ fullest f n }
+{
+    let mut most = 0;
+    for i in 0..n {
+        most = most.max(number(i));
+    }
+    most
 }
 
 // How many overlaps of row i are above the threshold.
-fn row_count(iou: &[f32], nt: usize, thr: f32, i: usize) -> usize
-    requires { (i * nt + nt ≤ length iou.now) × (nt ≤ 64) }
-    ensures { result ≡ count_of (λ j. above_of thr (entry_at nt iou.now) i j) nt }
+fn row_count(iou: Grid, thr: f32, i: usize) -> usize
+    requires { i < iou.objects }
+    ensures { result ≡ count_of (λ j. above_of thr (matrix_of iou.entry) i j) iou.entry.tracks }
 {
-    let from = i * nt;
-    let mut n = 0;
-    let mut j = 0;
-    while j < nt {
-        n = n + one_if(thr < iou[from + j]);
-        j += 1;
-    }
-    n
+    count(iou.tracks, |j| thr < iou.at(i, j))
 }
 
 // How many overlaps of column j are above the threshold.
-fn column_count(iou: &[f32], nd: usize, nt: usize, thr: f32, j: usize) -> usize
-    requires { (nd * nt ≤ length iou.now) × ((nd ≤ 64) × ((nt ≤ 64) × (j < nt))) }
-    ensures { result ≡ count_of (λ i. above_of thr (entry_at nt iou.now) i j) nd }
+fn column_count(iou: Grid, thr: f32, j: usize) -> usize
+    requires { j < iou.tracks }
+    ensures { result ≡ count_of (λ i. above_of thr (matrix_of iou.entry) i j) iou.entry.objects }
 {
-    let mut n = 0;
-    let mut i = 0;
-    while i < nd {
-        n = n + one_if(thr < iou[i * nt + j]);
-        i += 1;
-    }
-    n
+    count(iou.objects, |i| thr < iou.at(i, j))
 }
 
-fn larger_of(a: usize, b: usize) -> usize
-    ensures { result ≡ larger a b }
+fn fullest_row(iou: Grid, thr: f32) -> usize
+    ensures { result ≡ fullest (λ i. count_of (λ j. above_of thr (matrix_of iou.entry) i j) iou.entry.tracks) iou.entry.objects }
 {
-    if a < b { b } else { a }
+    largest(iou.objects, |i| row_count(iou, thr, i))
 }
 
-fn fullest_row(iou: &[f32], nd: usize, nt: usize, thr: f32) -> usize
-    requires { (nd * nt ≤ length iou.now) × ((nd ≤ 64) × (nt ≤ 64)) }
-    ensures { result ≡ fullest (λ i. count_of (λ j. above_of thr (entry_at nt iou.now) i j) nt) nd }
+fn fullest_column(iou: Grid, thr: f32) -> usize
+    ensures { result ≡ fullest (λ j. count_of (λ i. above_of thr (matrix_of iou.entry) i j) iou.entry.objects) iou.entry.tracks }
 {
-    let mut most = 0;
-    let mut i = 0;
-    while i < nd {
-        most = larger_of(most, row_count(iou, nt, thr, i));
-        i += 1;
-    }
-    most
-}
-
-fn fullest_column(iou: &[f32], nd: usize, nt: usize, thr: f32) -> usize
-    requires { (nd * nt ≤ length iou.now) × ((nd ≤ 64) × (nt ≤ 64)) }
-    ensures { result ≡ fullest (λ j. count_of (λ i. above_of thr (entry_at nt iou.now) i j) nd) nt }
-{
-    let mut most = 0;
-    let mut j = 0;
-    while j < nt {
-        most = larger_of(most, column_count(iou, nd, nt, thr, j));
-        j += 1;
-    }
-    most
+    largest(iou.tracks, |j| column_count(iou, thr, j))
 }
 
 // Whether the fullest row and the fullest column both have one.
-pub fn is_shortcut(iou: &[f32], nd: usize, nt: usize, thr: f32) -> bool
-    requires { (nd * nt ≤ length iou.now) × ((nd ≤ 64) × (nt ≤ 64)) }
-    ensures { result ≡ shortcut nd nt (above_of thr (entry_at nt iou.now)) }
+pub fn is_shortcut(iou: Grid, thr: f32) -> bool
+    ensures { result ≡ shortcut iou.entry.objects iou.entry.tracks (above_of thr (matrix_of iou.entry)) }
 {
-    fullest_row(iou, nd, nt, thr) == 1 && fullest_column(iou, nd, nt, thr) == 1
+    fullest_row(iou, thr) == 1 && fullest_column(iou, thr) == 1
 }
 
-pub fn some_above(iou: &[f32], nd: usize, nt: usize, thr: f32) -> bool
-    requires { (nd * nt ≤ length iou.now) × ((nd ≤ 64) × (nt ≤ 64)) }
-    ensures { result ≡ some_above nd nt thr (entry_at nt iou.now) }
+#[tactic(auto, unfolding(matching::specs::Matching::some_above))]
+pub fn some_above(iou: Grid, thr: f32) -> bool
+    ensures { result ≡ some_above iou.entry.objects iou.entry.tracks thr (matrix_of iou.entry) }
 {
-    0 < fullest_row(iou, nd, nt, thr)
+    0 < fullest_row(iou, thr)
 }
 
 // ---- the shortcut's marks
 
-// Track j where the test passed.
-fn mark_if(b: bool, j: usize, mark: i64) -> i64
-    requires { j < 64 }
-    ensures { result ≡ pick b (pos j) mark }
-{
-    if b { lapjv_walk::mark(j) } else { mark }
-}
-
 // The last track whose overlap with object i is above the threshold, or -1.
-fn row_mark(iou: &[f32], nt: usize, thr: f32, i: usize) -> i64
-    requires { (i * nt + nt ≤ length iou.now) × (nt ≤ 64) }
-    ensures { result ≡ passing (above_of thr (entry_at nt iou.now) i) nt }
+fn row_mark(iou: Grid, thr: f32, i: usize) -> i64
+    requires { i < iou.objects }
+    ensures { result ≡ passing (above_of thr (matrix_of iou.entry) i) iou.entry.tracks }
 {
-    let from = i * nt;
-    let mut mark: i64 = -1;
-    let mut j = 0;
-    while j < nt {
-        mark = mark_if(thr < iou[from + j], j, mark);
-        j += 1;
+    let mut mark = -1;
+    for j in 0..iou.tracks {
+        if thr < iou.at(i, j) {
+            mark = lapjv_walk::mark(j);
+        }
     }
     mark
 }
 
-pub fn shortcut_marks(iou: &[f32], nd: usize, nt: usize, thr: f32) -> Marks
-    requires { (nd * nt ≤ length iou.now) × ((nd ≤ 64) × (nt ≤ 64)) }
-    ensures { result.at ≡ tab (λ i. passing (above_of thr (entry_at nt iou.now) i) nt) nd ++ replicate (64 - nd) free }
+pub fn shortcut_marks(iou: Grid, thr: f32) -> Marks
+    ensures { result.at ≡ tab (λ i. passing (above_of thr (matrix_of iou.entry) i) iou.entry.tracks) iou.entry.objects ++ replicate (64 - iou.entry.objects) free }
 {
-    let mut at = [-1i64; 64];
-    let mut i = 0;
-    while i < nd {
-        at[i] = row_mark(iou, nt, thr, i);
-        i += 1;
-    }
-    Marks { at }
+    marks_by(iou.objects, |i| row_mark(iou, thr, i))
 }

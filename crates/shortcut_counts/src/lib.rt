@@ -37,13 +37,11 @@ fn count_placements(rows: u64, columns: u64, mask: u64) -> u64
         return 1;
     }
     let mut n = count_placements(rows - 1, columns, mask);
-    let mut column = 0;
-    while column < columns {
+    for column in 0..columns {
         let bit = power_of_two(column);
         if mask / bit % 2 == 0 {
             n += count_placements(rows - 1, columns, mask + bit);
         }
-        column += 1;
     }
     n
 }

@@ -1,268 +1,165 @@
 // Reading a state's text: a `load` line with the settings and counts, then the lines of each track in the order in which they are put.
-ghost use Rattle.std.specs.Prelude.{◌<◌};
+ghost use Rattle.std.specs.Prelude.{◌≡◌, ◌+◌, ◌<◌, ◌≤◌, length, IfOk, OnOk};
+ghost use Rattle.protocol.specs.Blank.{Taken};
+ghost use Rattle.protocol.specs.Words.{words_left};
 
-use crate::{LINES, held, put_name, span};
+use crate::held;
+use crate::part::{PARTS, Part, name, span, tag_of};
 use frame::Settings;
 use image::TrackerImage;
+use protocol::{Fault, Words};
 
-// A state of which some lines have come: the track whose lines come next, and which of them; LINES is its first line, or the end.
+// A state of which some lines have come: the track whose lines come next, and those of its lines that are to come, of which there is
+// none where its first line is.
 #[derive(Clone, Copy)]
 pub struct Loading {
-    pub good: bool,
-    pub index: usize,
-    pub line: usize,
-    pub image: TrackerImage,
-}
-
-// Settings that were read, and where they end.
-#[derive(Clone, Copy)]
-pub struct Given {
-    pub good: bool,
-    pub end: usize,
-    pub settings: Settings,
-}
-
-// The settings behind the blank at `at`.
-pub fn settings(line: &[u8], at: usize) -> Given {
-    let det = protocol::f32_word(line, at);
-    let iou = protocol::f32_word(line, det.end);
-    let inertia = protocol::f32_word(line, iou.end);
-    let max_age = protocol::whole_word(line, inertia.end);
-    let min_hits = protocol::whole_word(line, max_age.end);
-    let delta_t = protocol::whole_word(line, min_hits.end);
-    let byte = protocol::whole_word(line, delta_t.end);
-    let floats = det.good & iou.good & inertia.good;
-    let counts = max_age.good & min_hits.good & delta_t.good;
-    Given {
-        good: floats & counts & byte.good & (byte.value < 2),
-        end: byte.end,
-        settings: Settings {
-            det_thresh: det.value,
-            iou_threshold: iou.value,
-            inertia: inertia.value,
-            max_age: protocol::low(max_age.value),
-            min_hits: protocol::low(min_hits.value),
-            delta_t: protocol::low(delta_t.value),
-            use_byte: byte.value == 1,
-        },
-    }
-}
-
-// The lists of a state with these settings and totals, and no track.
-fn empty(s: Settings, frames: u32, issued: u64, count: u64) -> TrackerImage {
-    let mut wide = [0u64; 66];
-    let mut floats = [0.0f32; 10435];
-    let mut words = [0u32; 965];
-    wide[0] = issued;
-    wide[1] = count;
-    floats[0] = s.det_thresh;
-    floats[1] = s.iou_threshold;
-    floats[2] = s.inertia;
-    words[0] = s.max_age;
-    words[1] = s.min_hits;
-    words[2] = s.delta_t;
-    words[3] = to_image::flag(s.use_byte);
-    words[4] = frames;
-    TrackerImage {
-        wide,
-        floats,
-        words,
-    }
-}
-
-// The `load` line: settings, frames, ids and count.
-pub fn begin(line: &[u8]) -> Loading {
-    let given = settings(line, 4);
-    let frames = protocol::whole_word(line, given.end);
-    let ids = protocol::whole_word(line, frames.end);
-    let count = protocol::whole_word(line, ids.end);
-    let ends = count.end == line.len();
-    let s = given.settings;
-    Loading {
-        good: given.good & frames.good & ids.good & count.good & ends,
-        index: 0,
-        line: LINES,
-        image: empty(s, protocol::low(frames.value), ids.value, count.value),
-    }
-}
-
-// A track's first line that was read: id, age, streak, frames since update, frozen.
-#[derive(Clone, Copy)]
-struct Head {
-    good: bool,
-    id: u64,
-    age: u32,
-    streak: u32,
-    since: u32,
-    frozen: u32,
-}
-
-fn read_head(text: &[u8]) -> Head {
-    let id = protocol::whole_word(text, 5);
-    let age = protocol::whole_word(text, id.end);
-    let streak = protocol::whole_word(text, age.end);
-    let since = protocol::whole_word(text, streak.end);
-    let frozen = protocol::whole_word(text, since.end);
-    let words = id.good & age.good & streak.good & since.good & frozen.good;
-    let ends = (frozen.value < 2) & (frozen.end == text.len());
-    Head {
-        good: words & ends & protocol::is_word(text, b"track"),
-        id: id.value,
-        age: protocol::low(age.value),
-        streak: protocol::low(streak.value),
-        since: protocol::low(since.value),
-        frozen: protocol::low(frozen.value),
-    }
-}
-
-// A state with one more line, and whether the line was good.
-#[derive(Clone, Copy)]
-struct Read {
-    good: bool,
+    index: usize,
+    due: &'static [Part],
     image: TrackerImage,
 }
 
-fn with_head(text: &[u8], i: TrackerImage, k: usize) -> Read
-    requires { k < 64 }
+// The settings that the next words are.
+pub fn settings(words: &mut Words<'_>) -> Result<Settings, Fault>
+    ensures { OnOk result (Taken 7 (words_left words.old) (words_left words.new)) }
 {
-    let h = read_head(text);
-    let w = 5 + 15 * k;
-    let mut image = i;
-    image.wide[2 + k] = h.id;
-    image.words[w] = h.frozen;
-    image.words[w + 1] = h.age;
-    image.words[w + 2] = h.streak;
-    image.words[w + 3] = h.since;
-    Read {
-        good: h.good,
-        image,
-    }
+    Ok(Settings {
+        det_thresh: words.read()?,
+        iou_threshold: words.read()?,
+        inertia: words.read()?,
+        max_age: words.read()?,
+        min_hits: words.read()?,
+        delta_t: words.read()?,
+        use_byte: words.size(1)? == 1,
+    })
 }
 
-// Where the name of a line ends in its text, 0 if it has another name.
-fn behind_name(text: &[u8], line: usize) -> usize {
-    let mut name = [0u8; 8];
-    let n = put_name(&mut name, 0, line);
-    if 8 < n {
-        return 0;
+impl Loading {
+    // Behind the word `load`: settings, frames, ids and count. The state has no track yet.
+    pub fn begin(mut words: Words<'_>) -> Result<Loading, Fault>
+        ensures words { OnOk result (length (words_left words.entry) ≡ 10) }
+        ensures new { IfOk result (λ l. (l.index ≡ 0) × (length l.due.now ≡ 0)) }
+    {
+        let s = settings(&mut words)?;
+        let frames: u32 = words.read()?;
+        let issued: u32 = words.read()?;
+        let count: u32 = words.read()?;
+        words.end()?;
+        let mut wide = [0u64; 66];
+        let mut floats = [0.0f32; 10435];
+        let mut numbers = [0u32; 965];
+        wide[0] = u64::from(issued);
+        wide[1] = u64::from(count);
+        floats[0] = s.det_thresh;
+        floats[1] = s.iou_threshold;
+        floats[2] = s.inertia;
+        numbers[0] = s.max_age;
+        numbers[1] = s.min_hits;
+        numbers[2] = s.delta_t;
+        numbers[3] = u32::from(s.use_byte);
+        numbers[4] = frames;
+        Ok(Loading {
+            index: 0,
+            due: &[],
+            image: TrackerImage {
+                wide,
+                floats,
+                words: numbers,
+            },
+        })
     }
-    if protocol::is_word(text, &name[0..n]) {
-        n
-    } else {
-        0
-    }
-}
 
-// Whether the word `none` is all that stands behind a place.
-fn is_none(text: &[u8], at: usize) -> bool {
-    if at < text.len() {
-        let rest = &text[at..];
-        return (rest.len() == 5) & protocol::is_word(rest, b" none");
-    }
-    false
-}
-
-// A tag has a box or a direction, and the newest box is not kept apart.
-fn with_tag(i: TrackerImage, k: usize, line: usize, tag: u32) -> TrackerImage
-    requires { k < 64 }
-{
-    if line < 4 {
-        return i;
-    }
-    if 14 < line {
-        return i;
-    }
-    let mut image = i;
-    image.words[5 + 15 * k + line] = tag;
-    image
-}
-
-// Reads the numbers of a line of track k to their place, and says whether they are as many as the line has.
-fn read_numbers(text: &[u8], at: usize, floats: &mut [f32], k: usize, line: usize) -> bool
-    requires { k < 64 }
-{
-    let s = span(line);
-    let from = 3 + 163 * k + s.from;
-    let end = from + s.n;
-    if floats.len() < end {
-        return false;
-    }
-    let c = protocol::read_f32s(text, at, &mut floats[from..end]);
-    c.good & (c.n == s.n)
-}
-
-// The newest box has to be one, and is passed over.
-fn with_numbers(text: &[u8], at: usize, i: TrackerImage, k: usize, line: usize) -> Read
-    requires { k < 64 }
-{
-    let mut floats = i.floats;
-    let good = read_numbers(text, at, &mut floats, k, line);
-    let mut image = i;
-    if line < 15 {
-        image.floats = floats;
-    }
-    Read { good, image }
-}
-
-// A line of track k behind its first: its numbers, or for a box or a direction the word `none`.
-fn with_line(text: &[u8], i: TrackerImage, k: usize, line: usize) -> Read
-    requires { k < 64 }
-{
-    let at = behind_name(text, line);
-    let none = is_none(text, at);
-    let image = with_tag(i, k, line, to_image::flag(!none));
-    let r = with_numbers(text, at, image, k, line);
-    let good = r.good | (none & (3 < line));
-    let image = r.image;
-    Read {
-        good: good & (0 < at),
-        image,
-    }
-}
-
-// The line after one: a track that is not frozen has no saved filter.
-fn line_after(line: usize, frozen: u32) -> usize {
-    if LINES <= line {
-        return 0;
-    }
-    if (line == 1) & (frozen == 0) {
-        return 4;
-    }
-    line + 1
-}
-
-// Takes one more line, which is not the last.
-pub fn take(text: &[u8], l: Loading) -> Loading {
-    let k = l.index;
-    let line = l.line;
-    let image = l.image;
-    if 63 < k {
-        return Loading {
-            good: false,
-            index: k,
-            line,
-            image,
+    // Takes one more line, which is not the last. After a fault the state means nothing.
+    pub fn take(&mut self, line: &[u8]) -> Result<(), Fault>
+        ensures room { OnOk result (self.old.index < 64) }
+        ensures order { (self.old.index ≤ self.new.index) × (self.new.index ≤ self.old.index + 1) }
+    {
+        let k = self.index;
+        if 63 < k {
+            return Err(Fault::BadState);
+        }
+        let (first, words) = Words::of(line);
+        let is_frozen = self.image.words[5 + 15 * k] != 0;
+        let due = match self.due {
+            [Part::SavedX, Part::SavedP, rest @ ..] if !is_frozen => rest,
+            due => due,
         };
+        let Some((part, rest)) = due.split_first() else {
+            if first != b"track".as_slice() {
+                return Err(Fault::BadState);
+            }
+            self.due = &PARTS;
+            return self.take_head(words, k);
+        };
+        if first != name(*part).as_bytes() {
+            return Err(Fault::BadState);
+        }
+        self.due = rest;
+        if rest.is_empty() {
+            self.index = k + 1;
+        }
+        self.take_part(words, k, *part)
     }
-    let r = if line < LINES {
-        with_line(text, image, k, line)
-    } else {
-        with_head(text, image, k)
-    };
-    let image = r.image;
-    let words = image.words;
-    let next = line_after(line, words[5 + 15 * k]);
-    Loading {
-        good: l.good & r.good,
-        index: if next == LINES { k + 1 } else { k },
-        line: next,
-        image,
-    }
-}
 
-// Whether the lines so far are a whole state.
-pub fn is_whole(l: Loading) -> bool {
-    let image = l.image;
-    let wide = image.wide;
-    l.good & (l.line == LINES) & (l.index == held(wide[1]))
+    // Track k's first line: id, age, streak, frames since update, and whether it is frozen.
+    fn take_head(&mut self, mut words: Words<'_>, k: usize) -> Result<(), Fault>
+        requires { k < 64 }
+        ensures { self.new.index ≡ self.old.index }
+    {
+        let w = 5 + 15 * k;
+        let id: u32 = words.read()?;
+        self.image.wide[2 + k] = u64::from(id);
+        self.image.words[w + 1] = words.read()?;
+        self.image.words[w + 2] = words.read()?;
+        self.image.words[w + 3] = words.read()?;
+        self.image.words[w] = words.size(1)? as u32;
+        words.end()
+    }
+
+    // A line of track k behind its first: its numbers, or for a box or a direction the word `none`. The newest box is not kept apart.
+    fn take_part(&mut self, words: Words<'_>, k: usize, part: Part) -> Result<(), Fault>
+        requires { k < 64 }
+        ensures { self.new.index ≡ self.old.index }
+    {
+        let is_none = words.is_only(b"none");
+        match part {
+            Part::X | Part::P | Part::SavedX | Part::SavedP => self.take_numbers(words, k, part),
+            Part::Newest if is_none => Ok(()),
+            Part::Newest => words.all::<5>().map(|_| ()),
+            _ => {
+                if let Some(tag) = tag_of(part) {
+                    self.image.words[5 + 15 * k + tag] = u32::from(!is_none);
+                }
+                if is_none {
+                    Ok(())
+                } else {
+                    self.take_numbers(words, k, part)
+                }
+            }
+        }
+    }
+
+    // The numbers of a line go to their place, and have to be as many as the line has.
+    fn take_numbers(&mut self, words: Words<'_>, k: usize, part: Part) -> Result<(), Fault>
+        requires { k < 64 }
+        ensures { self.new.index ≡ self.old.index }
+    {
+        let s = span(part);
+        let from = 3 + 163 * k + s.from;
+        if words.fill(&mut self.image.floats[from..from + s.count])? == s.count {
+            Ok(())
+        } else {
+            Err(Fault::BadState)
+        }
+    }
+
+    // The state, if the lines so far are a whole one.
+    pub fn whole(&self) -> Result<TrackerImage, Fault>
+        ensures { IfOk result (λ i. (i ≡ self.now.image) × (self.now.index ≤ 64) × (length self.now.due.now ≡ 0)) }
+    {
+        if self.due.is_empty() && self.index == held(self.image.wide[1]) {
+            Ok(self.image)
+        } else {
+            Err(Fault::BadState)
+        }
+    }
 }

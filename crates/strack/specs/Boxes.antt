@@ -7,7 +7,6 @@ use Rattle.ieee.specs.Sqrt.{sqrt_of}
 use Rattle.kalman_filter.specs.declared.DetectBox.{DetectBox}
 use Rattle.object.specs.declared.Corners.{Corners}
 use Rattle.strack.specs.declared.Direction.{Direction}
-use Rattle.strack.specs.declared.Direction.TheVariants.{Known}
 
 -- 2 and 1e-6
 abbrev two : Float
@@ -54,4 +53,4 @@ direction_of a b =
     let dy = sub binary32 (middle b.y1 b.y2) (middle a.y1 a.y2) in
     let dx = sub binary32 (middle b.x1 b.x2) (middle a.x1 a.x2) in
     let norm = add binary32 (sqrt_of (add binary32 (mul binary32 dy dy) (mul binary32 dx dx))) millionth in
-    Known (div binary32 dy norm) (div binary32 dx norm)
+    record { dy = div binary32 dy norm; dx = div binary32 dx norm }

@@ -1,5 +1,6 @@
 -- Document 01, items 4 and 5, on the track as the code keeps it: birth, predict, a box, a miss, and the boxes before. Definitions only.
-use Rattle.std.specs.Prelude.{Bool, true, false, not, ◌&&◌, List, ◌∷◌, ℕ, zero, suc, ◌+◌, Float, get_or, set, take, replicate}
+use Rattle.std.specs.Prelude.{Bool, true, false, not, ◌&&◌, List, ◌∷◌, ℕ, zero, suc, ◌+◌, Float, Option, Some, None, get_or, set, take, replicate}
+use Rattle.std.specs.Option.{is_some, option_or, option_map}
 use Rattle.std.specs.Float.{binary32, nan}
 use Rattle.std.specs.Float.Ieee.{add, le, of_bits}
 use Rattle.ieee.specs.Ops.{f32}
@@ -10,13 +11,7 @@ use Rattle.gap.specs.Gap.{replay_of}
 use Rattle.lists.specs.Lists.{pick}
 use Rattle.object.specs.declared.Detection.{Detection}
 use Rattle.object.specs.declared.Corners.{Corners}
-use Rattle.strack.specs.declared.LastBox.{LastBox}
-use Rattle.strack.specs.declared.LastBox.TheVariants.{Unseen, Seen}
-use Rattle.strack.specs.declared.ListBox.{ListBox}
-use Rattle.strack.specs.declared.ListBox.TheVariants.{Empty, Holds}
 use Rattle.strack.specs.declared.Direction.{Direction}
-use Rattle.strack.specs.declared.Direction.TheVariants.{Unknown}
-use Rattle.strack.specs.declared.Kept.{Kept}
 use Rattle.strack.specs.declared.Track.{Track}
 use Rattle.object.specs.Object.{corners_of}
 use Rattle.strack.specs.Boxes.{measure_of, box_of, direction_of}
@@ -31,24 +26,13 @@ unfoldable pub no_filter : Filter
 unfolding of_bits
 no_filter = record { x = replicate 7 f0; p = replicate 49 f0 }
 
-abbrev pub seen_of : Detection → LastBox
-seen_of b = Seen b.x1 b.y1 b.x2 b.y2 b.score
-
-abbrev pub kept_of : LastBox → Kept
-kept_of l = record { at = l }
-
-abbrev pub is_seen : LastBox → Bool
-is_seen Unseen = false
-is_seen (Seen x1 y1 x2 y2 score) = true
-
 -- the last box's entry in `history_obs`
-abbrev pub list_entry : LastBox → ListBox
-list_entry Unseen = Empty
-list_entry (Seen x1 y1 x2 y2 score) = Holds (measure_of (record { x1 = x1; y1 = y1; x2 = x2; y2 = y2 }))
+abbrev pub list_entry : Option Detection → Option DetectBox
+list_entry l = option_map (λ d. measure_of (corners_of d)) l
 
 -- the box at the newest age before the others; the oldest falls off
-abbrev pub shifted : LastBox → List Kept → List Kept
-shifted l kept = kept_of l ∷ take 7 kept
+abbrev pub shifted : Option Detection → List (Option Detection) → List (Option Detection)
+shifted l kept = l ∷ take 7 kept
 
 -- ---- birth
 
@@ -61,10 +45,10 @@ birth_of b = record {
   age = 0;
   streak = 0;
   since = 0;
-  last = Unseen;
-  list = Empty;
-  direction = Unknown;
-  kept = replicate 8 (kept_of Unseen);
+  last = None;
+  list = None;
+  direction = None;
+  kept = replicate 8 None;
 }
 
 -- ---- predict
@@ -99,37 +83,33 @@ state_box f = box_of (get_or f.x 0 nan) (get_or f.x 1 nan) (get_or f.x 2 nan) (g
 
 -- ---- the boxes before, asked after predict
 
-abbrev pub or_box : LastBox → LastBox → LastBox
-or_box Unseen m = m
-or_box (Seen x1 y1 x2 y2 score) m = Seen x1 y1 x2 y2 score
-
 -- the box dt ages ago, the oldest of dt ages first
-unfoldable pub oldest_of : ℕ → List Kept → LastBox
-oldest_of zero kept = Unseen
-oldest_of (suc dt) kept = or_box (get_or kept dt (kept_of Unseen)).at (oldest_of dt kept)
+unfoldable pub oldest_of : ℕ → List (Option Detection) → Option Detection
+oldest_of zero kept = None
+oldest_of (suc dt) kept = option_or (get_or kept dt None) (oldest_of dt kept)
 
 -- find_previous_box: the last box where none of those ages has one
-unfoldable pub previous_of : ℕ → Track → LastBox
-previous_of dt t = or_box (oldest_of dt t.kept) t.last
+unfoldable pub previous_of : ℕ → Track → Option Detection
+previous_of dt t = option_or (oldest_of dt t.kept) t.last
 
 -- k_previous_obs: none before the first box
-unfoldable pub k_previous_of : ℕ → Track → LastBox
-k_previous_of dt t = pick (is_seen t.last) (previous_of dt t) Unseen
+unfoldable pub k_previous_of : ℕ → Track → Option Detection
+k_previous_of dt t = pick (is_some t.last) (previous_of dt t) None
 
 -- ---- a box
 
-abbrev pub heading_from : LastBox → Detection → Direction → Direction
-heading_from Unseen b d = d
-heading_from (Seen x1 y1 x2 y2 score) b d = direction_of (record { x1 = x1; y1 = y1; x2 = x2; y2 = y2 }) (corners_of b)
+abbrev pub heading_from : Option Detection → Detection → Option Direction → Option Direction
+heading_from None b d = d
+heading_from (Some from) b d = Some (direction_of (corners_of from) (corners_of b))
 
 -- A box given to a track that already has a last box sets its direction from the box so found to the new one.
-unfoldable pub heading_of : ℕ → Detection → Track → Direction
+unfoldable pub heading_of : ℕ → Detection → Track → Option Direction
 heading_of dt b t = heading_from (k_previous_of dt t) b t.direction
 
 -- the gap from the list box, or nothing to replay
-abbrev pub regained : ListBox → ℕ → DetectBox → Filter → Filter
-regained Empty gap z f = update_of z f
-regained (Holds z₁) gap z f = replay_of gap z₁ z f
+abbrev pub regained : Option DetectBox → ℕ → DetectBox → Filter → Filter
+regained None gap z f = update_of z f
+regained (Some z₁) gap z f = replay_of gap z₁ z f
 
 -- Not frozen: the box is applied. Frozen: the saved filter is restored, and the gap replayed from the list box.
 abbrev pub filter_after : Bool → Track → DetectBox → Filter
@@ -147,10 +127,10 @@ track_box dt b t =
       age = t.age;
       streak = t.streak + 1;
       since = 0;
-      last = seen_of b;
-      list = Holds z;
+      last = Some b;
+      list = Some z;
       direction = heading_of dt b t;
-      kept = shifted (seen_of b) t.kept;
+      kept = shifted (Some b) t.kept;
     }
 
 -- ---- a miss
@@ -161,18 +141,18 @@ saved_after true t = t.filter
 saved_after false t = t.saved
 
 unfoldable pub freezes : Track → Bool
-freezes t = is_seen t.last && not t.frozen
+freezes t = is_some t.last && not t.frozen
 
 unfoldable pub track_miss : Track → Track
 track_miss t = record {
   filter = t.filter;
   saved = saved_after (freezes t) t;
-  frozen = is_seen t.last;
+  frozen = is_some t.last;
   age = t.age;
   streak = t.streak;
   since = t.since;
   last = t.last;
   list = t.list;
   direction = t.direction;
-  kept = shifted Unseen t.kept;
+  kept = shifted None t.kept;
 }

@@ -2,38 +2,17 @@
 #![tactic(auto)]
 
 ghost use Rattle.std.specs.Prelude.{◌≡◌, ◌+◌, ◌≤◌, ◌<◌};
-ghost use Rattle.object.specs.Object.{corners_of};
 ghost use Rattle.strack.specs.Boxes.{measure_of, box_of, direction_of};
-ghost use Rattle.strack.specs.Track.{no_filter, seen_of, is_seen, shifted, birth_of, area_held, streak_after, track_predict, state_box, or_box, oldest_of, previous_of, k_previous_of, heading_from, heading_of, regained, filter_after, track_box, saved_after, freezes, track_miss};
+ghost use Rattle.strack.specs.Track.{no_filter, shifted, birth_of, area_held, streak_after, track_predict, state_box, oldest_of, previous_of, k_previous_of, heading_from, heading_of, regained, filter_after, track_box, saved_after, freezes, track_miss};
 
 use kalman_filter::{DetectBox, Filter};
 use object::{Corners, Detection};
 
-// The last box a track was given: x1, y1, x2, y2 and score.
+// Where a track is heading.
 #[derive(Clone, Copy)]
-pub enum LastBox {
-    Unseen,
-    Seen(f32, f32, f32, f32, f32),
-}
-
-// The last box in `history_obs`, as measured.
-#[derive(Clone, Copy)]
-pub enum ListBox {
-    Empty,
-    Holds(DetectBox),
-}
-
-// Where a track is heading: dy and dx.
-#[derive(Clone, Copy)]
-pub enum Direction {
-    Unknown,
-    Known(f32, f32),
-}
-
-// The box at one of the last eight ages.
-#[derive(Clone, Copy)]
-pub struct Kept {
-    pub at: LastBox,
+pub struct Direction {
+    pub dy: f32,
+    pub dx: f32,
 }
 
 // What a track's own boxes settle.
@@ -41,6 +20,7 @@ pub struct Kept {
 pub struct Track {
     pub filter: Filter,
     // the filter as it was at the first miss, while frozen
+    // Stays: no Option: an image may bring a saved filter for a track that isn't frozen, and `frame_on` hands its numbers on as they came (`saved_after`).
     pub saved: Filter,
     pub frozen: bool,
     pub age: u32,
@@ -48,33 +28,16 @@ pub struct Track {
     pub streak: u32,
     // frames since the last box, or since birth
     pub since: u32,
-    pub last: LastBox,
-    pub list: ListBox,
-    pub direction: Direction,
+    // the last box since birth
+    pub last: Option<Detection>,
+    // the last box in `history_obs`, as measured
+    pub list: Option<DetectBox>,
+    pub direction: Option<Direction>,
     // at rest the boxes at ages age, age - 1, .., age - 7; after predict those at the eight ages before the new one
-    pub kept: [Kept; 8],
+    pub kept: [Option<Detection>; 8],
 }
 
 // ---- boxes
-
-// A detection's box, without its score.
-pub fn corners(d: Detection) -> Corners
-    ensures { result ≡ corners_of d }
-{
-    Corners {
-        x1: d.x1,
-        y1: d.y1,
-        x2: d.x2,
-        y2: d.y2,
-    }
-}
-
-// A detection as the box a track was last given.
-pub fn seen(d: Detection) -> LastBox
-    ensures { result ≡ seen_of d }
-{
-    LastBox::Seen(d.x1, d.y1, d.x2, d.y2, d.score)
-}
 
 // A box as the filter measures it: centre, area, and width over height.
 pub fn convert_bbox_to_z(b: Corners) -> DetectBox
@@ -115,16 +78,9 @@ pub fn speed_direction(a: Corners, b: Corners) -> Direction
     let dy = cy2 - cy1;
     let dx = cx2 - cx1;
     let norm = ieee::sqrt(dy * dy + dx * dx) + 0.000001;
-    Direction::Known(dy / norm, dx / norm)
-}
-
-// Whether a box has come since birth.
-pub fn is_seen(l: LastBox) -> bool
-    ensures { result ≡ is_seen l }
-{
-    match l {
-        LastBox::Unseen => false,
-        LastBox::Seen(_, _, _, _, _) => true,
+    Direction {
+        dy: dy / norm,
+        dx: dx / norm,
     }
 }
 
@@ -134,32 +90,27 @@ pub fn is_seen(l: LastBox) -> bool
 pub fn no_filter() -> Filter
     ensures { result ≡ no_filter }
 {
-    let x = [0.0f32; 7];
-    let p = [0.0f32; 49];
-    Filter { x, p }
+    Filter {
+        x: [0.0; 7],
+        p: [0.0; 49],
+    }
 }
 
 // A track at the box it is born with.
 pub fn birth(d: Detection) -> Track
     ensures { result ≡ birth_of d }
 {
-    let filter = kalman_filter::new(convert_bbox_to_z(corners(d)));
-    let saved = no_filter();
-    let none = Kept {
-        at: LastBox::Unseen,
-    };
-    let kept = [none, none, none, none, none, none, none, none];
     Track {
-        filter,
-        saved,
+        filter: kalman_filter::new(convert_bbox_to_z(Corners::from(d))),
+        saved: no_filter(),
         frozen: false,
         age: 0,
         streak: 0,
         since: 0,
-        last: LastBox::Unseen,
-        list: ListBox::Empty,
-        direction: Direction::Unknown,
-        kept,
+        last: None,
+        list: None,
+        direction: None,
+        kept: [None; 8],
     }
 }
 
@@ -189,13 +140,10 @@ pub fn predict(t: Track) -> Track
     requires { (t.age + 1 < 4294967296) × (t.since + 1 < 4294967296) }
     ensures { result ≡ track_predict t }
 {
-    let f = t.filter;
-    let filter = kalman_filter::predict(area_held(f));
-    let streak = streak_after(t.since, t.streak);
     Track {
-        filter,
+        filter: kalman_filter::predict(area_held(t.filter)),
         age: t.age + 1,
-        streak,
+        streak: streak_after(t.since, t.streak),
         since: t.since + 1,
         ..t
     }
@@ -205,107 +153,79 @@ pub fn predict(t: Track) -> Track
 pub fn get_state(f: Filter) -> Corners
     ensures { result ≡ state_box f }
 {
-    let x = f.x;
-    convert_x_to_bbox(x[0], x[1], x[2], x[3])
+    convert_x_to_bbox(f.x[0], f.x[1], f.x[2], f.x[3])
 }
 
 // ---- the boxes before
 
-fn or_box(l: LastBox, other: LastBox) -> LastBox
-    ensures { result ≡ or_box l other }
-{
-    match l {
-        LastBox::Unseen => other,
-        LastBox::Seen(_, _, _, _, _) => l,
-    }
-}
-
 // The oldest box of the last delta_t ages.
-fn oldest_box(kept: [Kept; 8], delta_t: u32) -> LastBox
+fn oldest_box(kept: [Option<Detection>; 8], delta_t: u32) -> Option<Detection>
     requires { delta_t ≤ 8 }
     ensures { result ≡ oldest_of delta_t kept }
 {
-    let mut dt = delta_t;
-    while 0 < dt {
-        dt -= 1;
-        let k = kept[dt as usize];
-        let l = k.at;
-        if is_seen(l) {
-            return l;
+    for dt in (0..delta_t as usize).rev() {
+        if kept[dt].is_some() {
+            return kept[dt];
         }
     }
-    LastBox::Unseen
+    None
 }
 
 // The oldest box of the last delta_t ages, or else the last box; asked after predict.
-pub fn find_previous_box(t: Track, delta_t: u32) -> LastBox
+pub fn find_previous_box(t: Track, delta_t: u32) -> Option<Detection>
     requires { delta_t ≤ 8 }
     ensures { result ≡ previous_of delta_t t }
 {
-    let kept = t.kept;
-    let last = t.last;
-    or_box(oldest_box(kept, delta_t), last)
+    oldest_box(t.kept, delta_t).or(t.last)
 }
 
 // The previous box of a track that has been given one since birth.
-pub fn k_previous_obs(t: Track, delta_t: u32) -> LastBox
+pub fn k_previous_obs(t: Track, delta_t: u32) -> Option<Detection>
     requires { delta_t ≤ 8 }
     ensures { result ≡ k_previous_of delta_t t }
 {
-    let last = t.last;
-    if is_seen(last) {
+    if t.last.is_some() {
         return find_previous_box(t, delta_t);
     }
-    LastBox::Unseen
+    None
 }
 
 // ---- a box or a miss
 
 // This frame's box, or none, before those of the seven ages before it.
-fn shifted(l: LastBox, kept: [Kept; 8]) -> [Kept; 8]
+fn shifted(l: Option<Detection>, kept: [Option<Detection>; 8]) -> [Option<Detection>; 8]
     ensures { result ≡ shifted l kept }
 {
-    [
-        Kept { at: l },
-        kept[0],
-        kept[1],
-        kept[2],
-        kept[3],
-        kept[4],
-        kept[5],
-        kept[6],
-    ]
+    let mut out = [l; 8];
+    out[1..].copy_from_slice(&kept[..7]);
+    out
 }
 
 // The direction from the box found to d, or the old one where none was found.
-fn heading_from(found: LastBox, d: Detection, old: Direction) -> Direction
+fn heading_from(found: Option<Detection>, d: Detection, old: Option<Direction>) -> Option<Direction>
     ensures { result ≡ heading_from found d old }
 {
     match found {
-        LastBox::Unseen => old,
-        LastBox::Seen(x1, y1, x2, y2, _) => {
-            speed_direction(Corners { x1, y1, x2, y2 }, corners(d))
-        }
+        None => old,
+        Some(from) => Some(speed_direction(Corners::from(from), Corners::from(d))),
     }
 }
 
-fn heading(t: Track, delta_t: u32, d: Detection) -> Direction
+fn heading(t: Track, delta_t: u32, d: Detection) -> Option<Direction>
     requires { delta_t ≤ 8 }
     ensures { result ≡ heading_of delta_t d t }
 {
-    let found = k_previous_obs(t, delta_t);
-    let old = t.direction;
-    heading_from(found, d, old)
+    heading_from(k_previous_obs(t, delta_t), d, t.direction)
 }
 
 // The saved filter brought up to the box z.
-fn regain(saved: Filter, list: ListBox, z: DetectBox, gap: u32) -> Filter
+fn regain(saved: Filter, list: Option<DetectBox>, z: DetectBox, gap: u32) -> Filter
     requires { gap ≤ 256 }
     ensures { result ≡ regained list gap z saved }
 {
     match list {
-        ListBox::Empty => kalman_filter::update(saved, z),
-        ListBox::Holds(from) => gap::replay(saved, from, z, gap),
+        None => kalman_filter::update(saved, z),
+        Some(from) => gap::replay(saved, from, z, gap),
     }
 }
 
@@ -315,12 +235,9 @@ fn filter_after(t: Track, z: DetectBox) -> Filter
     ensures { result ≡ filter_after t.frozen t z }
 {
     if t.frozen {
-        let saved = t.saved;
-        let list = t.list;
-        return regain(saved, list, z, t.since);
+        return regain(t.saved, t.list, z, t.since);
     }
-    let filter = t.filter;
-    kalman_filter::update(filter, z)
+    kalman_filter::update(t.filter, z)
 }
 
 // The track after the box d.
@@ -328,24 +245,17 @@ pub fn update(t: Track, delta_t: u32, d: Detection) -> Track
     requires { (delta_t ≤ 8) × ((t.since ≤ 256) × (t.streak + 1 < 4294967296)) }
     ensures { result ≡ track_box delta_t d t }
 {
-    let z = convert_bbox_to_z(corners(d));
-    let direction = heading(t, delta_t, d);
-    let filter = filter_after(t, z);
-    let saved = no_filter();
-    let list = ListBox::Holds(z);
-    let last = seen(d);
-    let kept = t.kept;
-    let kept = shifted(last, kept);
+    let z = convert_bbox_to_z(Corners::from(d));
     Track {
-        filter,
-        saved,
+        filter: filter_after(t, z),
+        saved: no_filter(),
         frozen: false,
         streak: t.streak + 1,
         since: 0,
-        last,
-        list,
-        direction,
-        kept,
+        last: Some(d),
+        list: Some(z),
+        direction: heading(t, delta_t, d),
+        kept: shifted(Some(d), t.kept),
         ..t
     }
 }
@@ -354,31 +264,23 @@ pub fn update(t: Track, delta_t: u32, d: Detection) -> Track
 fn saved_after(t: Track) -> Filter
     ensures { result ≡ saved_after (freezes t) t }
 {
-    let last = t.last;
-    let saved = t.saved;
     if t.frozen {
-        return saved;
+        return t.saved;
     }
-    if is_seen(last) {
-        let filter = t.filter;
-        return kalman_filter::freeze(filter);
+    if t.last.is_some() {
+        return kalman_filter::freeze(t.filter);
     }
-    saved
+    t.saved
 }
 
 // The track after a frame without a box for it.
 pub fn update_none(t: Track) -> Track
     ensures { result ≡ track_miss t }
 {
-    let saved = saved_after(t);
-    let last = t.last;
-    let frozen = is_seen(last);
-    let kept = t.kept;
-    let kept = shifted(LastBox::Unseen, kept);
     Track {
-        saved,
-        frozen,
-        kept,
+        saved: saved_after(t),
+        frozen: t.last.is_some(),
+        kept: shifted(None, t.kept),
         ..t
     }
 }

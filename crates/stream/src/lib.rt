@@ -2,8 +2,10 @@
 // ends: the programs `replay` and `edges` are this on their own lines.
 #![tactic(auto)]
 
-use protocol::faults::Fault;
-use session::{Reply, Session};
+ghost use Rattle.std.specs.Prelude.{◌≤◌, length};
+
+use protocol::{Buffer, Fault, FaultAt};
+use session::Session;
 use std::io;
 use std::io::{Read, Write};
 
@@ -15,175 +17,112 @@ const LINE: usize = 131072;
 
 const ANSWER: usize = 131072;
 
-// What has been read and not yet taken, what waits to be written, and the number of the next line.
-#[derive(Clone, Copy)]
-struct Stream {
+// An input that is read by chunks, and where what was read and not yet taken begins and ends in the last one.
+#[derive(Drop)]
+struct Lines<'a, R> {
+    input: &'a mut R,
+    chunk: &'a mut [u8],
     at: usize,
     end: usize,
-    waiting: usize,
-    number: u64,
-    open: bool,
+    is_open: bool,
+    ghost in_order: { at ≤ end },
+    ghost within: { end ≤ length chunk.now },
 }
 
-// A line that was taken, its length, and whether it fits its buffer. At the end of the input there may be none.
-#[derive(Clone, Copy)]
-struct Taken {
-    stream: Stream,
-    is_line: bool,
-    fits: bool,
-    length: usize,
-}
-
-fn flush<W: Write>(output: &mut W, answers: &[u8], waiting: usize) -> io::Result<()> {
-    if waiting <= answers.len() {
-        output.write_all(&answers[0..waiting])?;
+impl<'a, R: Read> Lines<'a, R> {
+    fn new(input: &'a mut R, chunk: &'a mut [u8]) -> Lines<'a, R> {
+        Lines {
+            input,
+            chunk,
+            at: 0,
+            end: 0,
+            is_open: true,
+        }
     }
-    Ok(())
-}
 
-// Reads on, after writing what waits: every line is answered before the next is waited for.
-fn refill<R: Read, W: Write>(
-    input: &mut R,
-    output: &mut W,
-    chunk: &mut [u8],
-    answers: &[u8],
-    waiting: usize,
-) -> io::Result<usize> {
-    flush(output, answers, waiting)?;
-    input.read(chunk)
-}
+    // Reads on.
+    fn refill(&mut self) -> io::Result<()> {
+        let n = self.input.read(self.chunk)?;
+        self.at = 0;
+        self.end = n.min(self.chunk.len());
+        self.is_open = 0 < n;
+        Ok(())
+    }
 
-// Takes the bytes up to the next line feed. Nothing says that a line ends, so the turns are counted down from a number that
-// no run uses up.
-fn take<R: Read, W: Write>(
-    input: &mut R,
-    output: &mut W,
-    chunk: &mut [u8],
-    line: &mut [u8],
-    answers: &[u8],
-    s: Stream,
-) -> io::Result<Taken> {
-    let mut at = s.at;
-    let mut end = s.end;
-    let mut waiting = s.waiting;
-    let mut open = true;
-    let mut fits = true;
-    let mut is_line = false;
-    let mut n = 0;
-    let mut turns = u64::MAX;
-    while turns > 0 && open && !is_line {
-        turns -= 1;
-        if end <= at {
-            end = refill(input, output, chunk, answers, waiting)?;
-            at = 0;
-            waiting = 0;
-            open = 0 < end;
-        } else {
-            let b = protocol::byte_at(chunk, at);
-            at = protocol::next(chunk, at);
-            is_line = b == b'\n';
-            if !is_line {
-                fits = n < line.len();
-                n = protocol::put(line, n, b);
+    // Moves what was read to a line, up to the next line feed; whether there is one.
+    fn pour(&mut self, line: &mut Buffer<'_>) -> (bool, Result<(), Fault>) {
+        let rest = &self.chunk[self.at..self.end];
+        match rest.iter().position(|b| *b == b'\n') {
+            Some(n) => {
+                let told = line.push(&rest[..n]);
+                self.at += n + 1;
+                (true, told)
+            }
+            None => {
+                let told = line.push(rest);
+                self.at = self.end;
+                (false, told)
             }
         }
     }
-    Ok(Taken {
-        stream: Stream {
-            at,
-            end,
-            waiting,
-            number: s.number,
-            open,
-        },
-        is_line: is_line || 0 < n,
-        fits,
-        length: n,
-    })
-}
 
-// Leaves room for the longest answer.
-fn make_room<W: Write>(output: &mut W, answers: &[u8], waiting: usize) -> io::Result<usize> {
-    if ANSWER < waiting {
-        flush(output, answers, waiting)?;
-        return Ok(0);
+    // Takes the next line, if there is one. What waits is written before more is read: every line is answered before the next is waited
+    // for. Nothing says that a line ends, so the turns are counted, to a number that no run comes to.
+    fn take<W: Write>(
+        &mut self,
+        line: &mut Buffer<'_>,
+        answers: &mut Buffer<'_>,
+        output: &mut W,
+    ) -> io::Result<Option<Result<(), Fault>>> {
+        line.clear();
+        let mut fits = Ok(());
+        for _ in 0..u64::MAX {
+            if self.at == self.end {
+                if !self.is_open {
+                    break;
+                }
+                flush(answers, output)?;
+                self.refill()?;
+            } else {
+                let (is_whole, told) = self.pour(line);
+                fits = fits.and(told);
+                if is_whole {
+                    return Ok(Some(fits));
+                }
+            }
+        }
+        if line.bytes().is_empty() {
+            Ok(None)
+        } else {
+            Ok(Some(fits))
+        }
     }
-    Ok(waiting)
 }
 
-fn put_answer(
+fn flush<W: Write>(answers: &mut Buffer<'_>, output: &mut W) -> io::Result<()> {
+    output.write_all(answers.bytes())?;
+    answers.clear();
+    Ok(())
+}
+
+// Puts the answer to a line that was taken.
+fn respond(
+    session: &mut Session,
     line: &[u8],
-    answers: &mut [u8],
-    at: usize,
     number: u64,
-    fits: bool,
-    k: Session,
-) -> Reply {
-    if !fits {
-        return Reply {
-            at: protocol::faults::put_error(answers, at, number, Fault::TooLong),
-            session: k,
-        };
-    }
-    session::answer(line, answers, at, number, k)
-}
-
-// The stream and the session behind a line.
-#[derive(Clone, Copy)]
-struct Step {
-    stream: Stream,
-    session: Session,
-}
-
-// Answers a line that was taken.
-fn respond<W: Write>(
-    output: &mut W,
-    line: &[u8],
-    answers: &mut [u8],
-    t: Taken,
-    k: Session,
-) -> io::Result<Step> {
-    let mut s = t.stream;
-    if !t.is_line {
-        return Ok(Step {
-            stream: s,
-            session: k,
+    fits: Result<(), Fault>,
+    answers: &mut Buffer<'_>,
+) {
+    let told = match fits {
+        Ok(()) => session.answer(line, answers),
+        Err(fault) => Err(fault),
+    };
+    if let Err(fault) = told {
+        answers.put_line(FaultAt {
+            line: number,
+            fault,
         });
     }
-    let n = protocol::within(t.length as u64, line.len());
-    let waiting = make_room(output, answers, s.waiting)?;
-    let r = put_answer(&line[0..n], answers, waiting, s.number, t.fits, k);
-    s.waiting = r.at;
-    s.number = std::num::wrapping_add_u64(s.number, 1);
-    let session = r.session;
-    Ok(Step { stream: s, session })
-}
-
-// Answers line after line. Nothing says that the input ends, so the turns are counted down as well.
-fn answer_all<R: Read, W: Write>(
-    input: &mut R,
-    output: &mut W,
-    chunk: &mut [u8],
-    line: &mut [u8],
-    answers: &mut [u8],
-) -> io::Result<()> {
-    let mut s = Stream {
-        at: 0,
-        end: 0,
-        waiting: 0,
-        number: 1,
-        open: true,
-    };
-    let mut k = session::new();
-    let mut turns = u64::MAX;
-    while turns > 0 && s.open {
-        turns -= 1;
-        let t = take(input, output, chunk, line, answers, s)?;
-        let step = respond(output, line, answers, t, k)?;
-        s = step.stream;
-        k = step.session;
-    }
-    flush(output, answers, s.waiting)
 }
 
 // Answers the input's lines. A read or a write that fails ends it: what was written before stays, and answers that waited are lost.
@@ -191,5 +130,18 @@ pub fn run<R: Read, W: Write>(input: &mut R, output: &mut W) -> io::Result<()> {
     let mut chunk = [0u8; CHUNK];
     let mut line = [0u8; LINE];
     let mut answers = [0u8; 2 * ANSWER];
-    answer_all(input, output, &mut chunk, &mut line, &mut answers)
+    let mut lines = Lines::new(input, &mut chunk);
+    let mut line = Buffer::new(&mut line);
+    let mut answers = Buffer::new(&mut answers);
+    let mut session = Session::new();
+    for number in 1..u64::MAX {
+        let Some(fits) = lines.take(&mut line, &mut answers, output)? else {
+            break;
+        };
+        if ANSWER < answers.bytes().len() {
+            flush(&mut answers, output)?;
+        }
+        respond(&mut session, line.bytes(), number, fits, &mut answers);
+    }
+    flush(&mut answers, output)
 }

@@ -1,4 +1,6 @@
 -- Converted there and back a state is itself, and its image means something: kind by kind, then cell by cell. Assumes nothing.
+use Rattle.std.specs.Prelude.{Option, Some, None}
+use Rattle.std.specs.Option.{is_some}
 use mathlib.Core.Path.{◌≡◌, refl, sym, ap, ap₂, ◌∙◌}
 use mathlib.Core.Bool.{Bool, true, false, ◌&&◌}
 use mathlib.Core.List.{List, [], ◌∷◌, ◌++◌, map, append_assoc}
@@ -12,20 +14,16 @@ use Rattle.lists.specs.Lists.{every, flat, All}
 use Rattle.lists.proofs.Tab.{length-tab, get_or-tab}
 use Rattle.lists.proofs.All.{all_any}
 use Rattle.kalman_filter.specs.declared.Filter.{Filter}
-use Rattle.strack.specs.declared.LastBox.{LastBox}
-use Rattle.strack.specs.declared.LastBox.TheVariants.{Unseen, Seen}
-use Rattle.strack.specs.declared.ListBox.{ListBox}
-use Rattle.strack.specs.declared.ListBox.TheVariants.{Empty, Holds}
 use Rattle.strack.specs.declared.Direction.{Direction}
-use Rattle.strack.specs.declared.Direction.TheVariants.{Unknown, Known}
-use Rattle.strack.specs.declared.Kept.{Kept}
-use Rattle.strack.specs.Track.{kept_of}
 use Rattle.frame.specs.declared.Tracked.{Tracked}
 use Rattle.frame.specs.declared.Tracker.{Tracker}
 use Rattle.frame.specs.State.{blank}
-use Rattle.image.specs.Image.{flag_of, is_set, tagged, filter_floats, filter_at, box_tag, box_floats, box_at, list_tag, list_floats, list_at, direction_tag, direction_floats, direction_at, kept_tag, kept_floats, kept_at, Cell, freeze_track, thaw_track, meant_track, id_of, floats_of, words_of, cell_at, cells, freeze_tracker, thaw_tracker, meant, Faithful}
+use Rattle.std.specs.Int.{from_bool}
+use Rattle.image.specs.Image.{is_set, tagged, filter_floats, filter_at, tag_of, box_floats, box_at, list_floats, list_at, direction_floats, direction_at, kept_at, Cell, freeze_track, thaw_track, meant_track, id_of, floats_of, words_of, cell_at, cells, freeze_tracker, thaw_tracker, meant, Faithful}
 use Rattle.to_image.proofs.Putting.{box-long, list-long, direction-long}
 use Rattle.image.proofs.Parts.{tab-part}
+use Rattle.kalman_filter.specs.declared.DetectBox.{DetectBox}
+use Rattle.object.specs.declared.Detection.{Detection}
 use Rattle.to_image.proofs.Filling.{Full, all_weaker}
 
 -- ---- one part of several of one length
@@ -50,7 +48,7 @@ module _ {A B : Type 0} (f : A → List B) (w : ℕ) where
 
 -- ---- kind by kind
 
-pub flag-back : (b : Bool) → is_set (flag_of b) ≡ b
+pub flag-back : (b : Bool) → is_set (from_bool b) ≡ b
 flag-back true = refl
 flag-back false = refl
 
@@ -78,44 +76,41 @@ module _ (fs : List Float) (k : ℕ) where
   direction-from : (tag : ℕ) → direction_at tag fs k ≡ direction_at tag (drop k fs) 0
   direction-from tag = rw (first, next 1)
 
-  box-back : (r : List Float) (b : LastBox) → drop k fs ≡ box_floats b ++ r → box_at (box_tag b) fs k ≡ b
-  box-back r b e = box-from (box_tag b) ∙ ap (λ (l : List Float). box_at (box_tag b) l 0) e ∙ go b
+  box-back : (r : List Float) (b : Option Detection) → drop k fs ≡ box_floats b ++ r → box_at (tag_of b) fs k ≡ b
+  box-back r b e = box-from (tag_of b) ∙ ap (λ (l : List Float). box_at (tag_of b) l 0) e ∙ go b
     where
-      go : (b : LastBox) → box_at (box_tag b) (box_floats b ++ r) 0 ≡ b
-      go Unseen = refl
-      go (Seen x1 y1 x2 y2 score) = refl
+      go : (b : Option Detection) → box_at (tag_of b) (box_floats b ++ r) 0 ≡ b
+      go None = refl
+      go (Some d) = refl
 
-  list_back : (r : List Float) (b : ListBox) → drop k fs ≡ list_floats b ++ r → list_at (list_tag b) fs k ≡ b
-  list_back r b e = list-from (list_tag b) ∙ ap (λ (l : List Float). list_at (list_tag b) l 0) e ∙ go b
+  list_back : (r : List Float) (b : Option DetectBox) → drop k fs ≡ list_floats b ++ r → list_at (tag_of b) fs k ≡ b
+  list_back r b e = list-from (tag_of b) ∙ ap (λ (l : List Float). list_at (tag_of b) l 0) e ∙ go b
     where
-      go : (b : ListBox) → list_at (list_tag b) (list_floats b ++ r) 0 ≡ b
-      go Empty = refl
-      go (Holds z) = refl
+      go : (b : Option DetectBox) → list_at (tag_of b) (list_floats b ++ r) 0 ≡ b
+      go None = refl
+      go (Some z) = refl
 
-  direction-back : (r : List Float) (d : Direction) → drop k fs ≡ direction_floats d ++ r → direction_at (direction_tag d) fs k ≡ d
-  direction-back r d e = direction-from (direction_tag d) ∙ ap (λ (l : List Float). direction_at (direction_tag d) l 0) e ∙ go d
+  direction-back : (r : List Float) (d : Option Direction) → drop k fs ≡ direction_floats d ++ r → direction_at (tag_of d) fs k ≡ d
+  direction-back r d e = direction-from (tag_of d) ∙ ap (λ (l : List Float). direction_at (tag_of d) l 0) e ∙ go d
     where
-      go : (d : Direction) → direction_at (direction_tag d) (direction_floats d ++ r) 0 ≡ d
-      go Unknown = refl
-      go (Known dy dx) = refl
+      go : (d : Option Direction) → direction_at (tag_of d) (direction_floats d ++ r) 0 ≡ d
+      go None = refl
+      go (Some d) = refl
 
-kept_back : (ws : List ℕ) (w : ℕ) (fs : List Float) (k : ℕ) (ks : List Kept) → length ks ≡ 8 → drop w ws ≡ map kept_tag ks → drop k fs ≡ flat kept_floats ks → kept_at ws w fs k ≡ ks
+kept_back : (ws : List ℕ) (w : ℕ) (fs : List Float) (k : ℕ) (ks : List (Option Detection)) → length ks ≡ 8 → drop w ws ≡ map tag_of ks → drop k fs ≡ flat box_floats ks → kept_at ws w fs k ≡ ks
 kept_back ws w fs k ks n g e =
-    ext_get_or none (kept_at ws w fs k) ks (length-tab cell 8 ∙ sym n)
-    (λ j h. let b : j < 8 = rw (length-tab cell 8) at h in get_or-tab cell 8 none j b ∙ ap kept_of (one j b))
+    ext_get_or None (kept_at ws w fs k) ks (length-tab cell 8 ∙ sym n)
+    (λ j h. let b : j < 8 = rw (length-tab cell 8) at h in get_or-tab cell 8 None j b ∙ one j b)
   where
-    none : Kept
-    none = kept_of Unseen
+    cell : ℕ → Option Detection
+    cell j = box_at (get_or ws (w + j) 0) fs (k + 5 * j)
 
-    cell : ℕ → Kept
-    cell j = kept_of (box_at (get_or ws (w + j) 0) fs (k + 5 * j))
-
-    one : (j : ℕ) → j < 8 → box_at (get_or ws (w + j) 0) fs (k + 5 * j) ≡ (get_or ks j none).at
+    one : (j : ℕ) → j < 8 → box_at (get_or ws (w + j) 0) fs (k + 5 * j) ≡ (get_or ks j None)
     one j b =
         let b' : j < length ks = omega (arith, b, n) in
-        let tag : get_or ws (w + j) 0 ≡ box_tag (get_or ks j none).at = sym (get_or-drop w ws j 0) ∙ ap (λ (l : List ℕ). get_or l j 0) g ∙ get_or-map kept_tag ks j none in
-        let from : drop (k + 5 * j) fs ≡ box_floats (get_or ks j none).at ++ flat kept_floats (drop (suc j) ks) = sym (drop-drop (5 * j) k fs) ∙ ap (drop (5 * j)) e ∙ flat-from kept_floats 5 ks j none (all_any (λ k. box-long k.at) ks) b' in
-        ap (λ (t : ℕ). box_at t fs (k + 5 * j)) tag ∙ box-back fs (k + 5 * j) (flat kept_floats (drop (suc j) ks)) (get_or ks j none).at from
+        let tag : get_or ws (w + j) 0 ≡ tag_of (get_or ks j None) = sym (get_or-drop w ws j 0) ∙ ap (λ (l : List ℕ). get_or l j 0) g ∙ get_or-map tag_of ks j None in
+        let from : drop (k + 5 * j) fs ≡ box_floats (get_or ks j None) ++ flat box_floats (drop (suc j) ks) = sym (drop-drop (5 * j) k fs) ∙ ap (drop (5 * j)) e ∙ flat-from box_floats 5 ks j None (all_any box-long ks) b' in
+        ap (λ (t : ℕ). box_at t fs (k + 5 * j)) tag ∙ box-back fs (k + 5 * j) (flat box_floats (drop (suc j) ks)) (get_or ks j None) from
 
 -- ---- a track
 
@@ -140,7 +135,7 @@ track-back e h =
     let last : drop 112 fs ≡ box_floats t.last ++ _ = skip fs (filter_floats t.saved) _ 56 56 112 saved (omega (arith, length-append t.saved.x t.saved.p, h.xs, h.ps)) refl in
     let list : drop 117 fs ≡ list_floats t.list ++ _ = skip fs (box_floats t.last) _ 112 5 117 last (box-long t.last) refl in
     let direction : drop 121 fs ≡ direction_floats t.direction ++ _ = skip fs (list_floats t.list) _ 117 4 121 list (list-long t.list) refl in
-    let kept : drop 123 fs ≡ flat kept_floats t.kept = skip fs (direction_floats t.direction) _ 121 2 123 direction (direction-long t.direction) refl in
+    let kept : drop 123 fs ≡ flat box_floats t.kept = skip fs (direction_floats t.direction) _ 121 2 123 direction (direction-long t.direction) refl in
     λ i. record {
       id = e.id;
       track = record {
@@ -159,21 +154,9 @@ track-back e h =
 
 -- ---- every tag of an image means something
 
-pub flag-tagged : (b : Bool) → tagged (flag_of b) ≡ true
+pub flag-tagged : (b : Bool) → tagged (from_bool b) ≡ true
 flag-tagged true = refl
 flag-tagged false = refl
-
-box-tagged : (b : LastBox) → tagged (box_tag b) ≡ true
-box-tagged Unseen = refl
-box-tagged (Seen x1 y1 x2 y2 score) = refl
-
-list-tagged : (b : ListBox) → tagged (list_tag b) ≡ true
-list-tagged Empty = refl
-list-tagged (Holds z) = refl
-
-direction-tagged : (d : Direction) → tagged (direction_tag d) ≡ true
-direction-tagged Unknown = refl
-direction-tagged (Known dy dx) = refl
 
 map-every : {A B : Type 0} (f : A → B) (p : B → Bool) → ((a : A) → p (f a) ≡ true) → (n : ℕ) (l : List A) → every p (take n (map f l)) ≡ true
 map-every f p h zero l = refl
@@ -187,7 +170,7 @@ track-meant : (e : Tracked) → meant_track (freeze_track e) ≡ true
 unfolding meant_track freeze_track
 track-meant e =
     let t = e.track in
-    rw (flag-tagged t.frozen, box-tagged t.last, list-tagged t.list, direction-tagged t.direction) (map-all kept_tag tagged (λ k. box-tagged k.at) t.kept)
+    rw (flag-tagged t.frozen, flag-tagged (is_some t.last), flag-tagged (is_some t.list), flag-tagged (is_some t.direction)) (map-all tag_of tagged (λ k. flag-tagged (is_some k)) t.kept)
 
 -- ---- the whole state
 

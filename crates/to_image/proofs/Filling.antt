@@ -18,7 +18,8 @@ use Rattle.frame.specs.declared.Tracker.{Tracker}
 use Rattle.frame.specs.State.{blank, state_of}
 use Rattle.image.specs.declared.TrackerImage.{TrackerImage}
 use Rattle.to_image.proofs.Sets.{sets-next}
-use Rattle.image.specs.Image.{f0, flag_of, is_set, tagged, freeze_track, id_of, floats_of, words_of, image_of, freeze_tracker, thaw_tracker, Put, Cleared}
+use Rattle.std.specs.Int.{from_bool}
+use Rattle.image.specs.Image.{f0, is_set, tagged, freeze_track, id_of, floats_of, words_of, image_of, freeze_tracker, thaw_tracker, Put, Cleared}
 
 -- ---- lists written part by part
 
@@ -117,7 +118,7 @@ filled-whole i es n a w f s = (
 )
 
 -- a tag that means something is the flag that it stands for
-pub flag-of : (n : ℕ) → tagged n ≡ true → n ≡ flag_of (is_set n)
+pub flag-of : (n : ℕ) → tagged n ≡ true → n ≡ from_bool (is_set n)
 flag-of zero h = refl
 flag-of (suc zero) h = refl
 flag-of (suc (suc n)) h = let z : suc (suc n) ≤ 1 = leb-true (suc (suc n)) 1 h in absurd (omega (arith, z))
@@ -135,7 +136,7 @@ front-floats (a ∷ b ∷ []) r h = absurd (omega (arith, h))
 front-floats (a ∷ b ∷ c ∷ l) r h = refl
 
 front-words : (l r : List ℕ) (frames : ℕ) → 5 ≤ length l → tagged (get_or l 3 0) ≡ true
-    → set (take 5 l ++ r) 4 frames ≡ get_or l 0 0 ∷ get_or l 1 0 ∷ get_or l 2 0 ∷ flag_of (is_set (get_or l 3 0)) ∷ frames ∷ r
+    → set (take 5 l ++ r) 4 frames ≡ get_or l 0 0 ∷ get_or l 1 0 ∷ get_or l 2 0 ∷ from_bool (is_set (get_or l 3 0)) ∷ frames ∷ r
 front-words [] r frames h g = absurd (omega (arith, h))
 front-words (a ∷ []) r frames h g = absurd (omega (arith, h))
 front-words (a ∷ b ∷ []) r frames h g = absurd (omega (arith, h))
@@ -170,7 +171,7 @@ take-sets : {A : Type 0} (xs l : List A) → length xs ≤ length l → take (le
 take-sets {A} xs l h = ap (take (length xs)) (sets-eq xs l 0 (omega (arith, h))) ∙ take-append_seam xs (drop (0 + length xs) l)
 
 -- all of it, with the settings and the totals in front
-pub written : (i : TrackerImage) (wide words : List ℕ) (floats : List Float) (t : Tracker) (k tag : ℕ) → length wide ≡ 66 → length floats ≡ 10435 → length words ≡ 965 → length t.table ≡ 64 → k ≡ 64 → tag ≡ flag_of t.settings.use_byte → All Full (take k t.table)
+pub written : (i : TrackerImage) (wide words : List ℕ) (floats : List Float) (t : Tracker) (k tag : ℕ) → length wide ≡ 66 → length floats ≡ 10435 → length words ≡ 965 → length t.table ≡ 64 → k ≡ 64 → tag ≡ from_bool t.settings.use_byte → All Full (take k t.table)
     → i ≡ filled_to (image_of (sets wide 0 (t.issued ∷ t.count ∷ [])) (sets floats 0 (t.settings.det_thresh ∷ t.settings.iou_threshold ∷ t.settings.inertia ∷ [])) (sets words 0 (t.settings.max_age ∷ t.settings.min_hits ∷ t.settings.delta_t ∷ tag ∷ t.frames ∷ []))) (take k t.table)
     → i ≡ freeze_tracker t
 unfolding freeze_tracker

@@ -1,4 +1,5 @@
 -- A track written: how many numbers it has, and its writes one after another. Assumes nothing.
+use Rattle.std.specs.Prelude.{Option, Some, None}
 use mathlib.Core.Path.{◌≡◌, refl, ap, ◌∙◌}
 use mathlib.Core.List.{List, ◌++◌, map}
 use Prim.Native.Nat.{ℕ, ◌+◌, ◌*◌, ◌≤◌}
@@ -13,18 +14,15 @@ use Rattle.lists.specs.Lists.{flat}
 use Rattle.lists.proofs.All.{all_any, flat-long}
 use Rattle.kalman_filter.specs.declared.Filter.{Filter}
 use Rattle.kalman_filter.specs.contracts.Filter as Fi
-use Rattle.strack.specs.declared.LastBox.{LastBox}
-use Rattle.strack.specs.declared.LastBox.TheVariants.{Unseen, Seen}
-use Rattle.strack.specs.declared.ListBox.{ListBox}
-use Rattle.strack.specs.declared.ListBox.TheVariants.{Empty, Holds}
 use Rattle.strack.specs.declared.Direction.{Direction}
-use Rattle.strack.specs.declared.Direction.TheVariants.{Unknown, Known}
-use Rattle.strack.specs.declared.Kept.{Kept}
 use Rattle.strack.specs.declared.Track.{Track}
 use Rattle.strack.specs.contracts.Track as Tr
 use Rattle.frame.specs.declared.Tracked.{Tracked}
 use Rattle.frame.specs.contracts.Tracked as Td
-use Rattle.image.specs.Image.{flag_of, filter_floats, box_tag, box_floats, list_tag, list_floats, direction_tag, direction_floats, kept_tag, kept_floats, freeze_track, floats_of, words_of}
+use Rattle.std.specs.Int.{from_bool}
+use Rattle.image.specs.Image.{filter_floats, tag_of, box_floats, list_floats, direction_floats, freeze_track, floats_of, words_of}
+use Rattle.kalman_filter.specs.declared.DetectBox.{DetectBox}
+use Rattle.object.specs.declared.Detection.{Detection}
 use Rattle.to_image.proofs.Sets.{sets-next}
 
 -- ---- how many numbers
@@ -39,23 +37,23 @@ module _ (f : Filter) (vs : List Val) (h : Is Fi.the_row f vs) where
   pub filter-long : length (filter_floats f) ≡ 56
   filter-long = omega (arith, length-append f.x f.p, x-long, p-long)
 
-pub box-long : (b : LastBox) → length (box_floats b) ≡ 5
-box-long Unseen = refl
-box-long (Seen x1 y1 x2 y2 score) = refl
+pub box-long : (b : Option Detection) → length (box_floats b) ≡ 5
+box-long None = refl
+box-long (Some d) = refl
 
-pub list-long : (b : ListBox) → length (list_floats b) ≡ 4
-list-long Empty = refl
-list-long (Holds z) = refl
+pub list-long : (b : Option DetectBox) → length (list_floats b) ≡ 4
+list-long None = refl
+list-long (Some z) = refl
 
-pub direction-long : (d : Direction) → length (direction_floats d) ≡ 2
-direction-long Unknown = refl
-direction-long (Known dy dx) = refl
+pub direction-long : (d : Option Direction) → length (direction_floats d) ≡ 2
+direction-long None = refl
+direction-long (Some d) = refl
 
-pub boxes-long : (ks : List Kept) → length (flat kept_floats ks) ≡ 5 * length ks
-boxes-long ks = flat-long kept_floats 5 ks (all_any (λ (k : Kept). box-long k.at) ks)
+pub boxes-long : (ks : List (Option Detection)) → length (flat box_floats ks) ≡ 5 * length ks
+boxes-long ks = flat-long box_floats 5 ks (all_any box-long ks)
 
 -- the numbers of the first j
-pub first-long : (ks : List Kept) (j : ℕ) → j ≤ length ks → length (flat kept_floats (take j ks)) ≡ 5 * j
+pub first-long : (ks : List (Option Detection)) (j : ℕ) → j ≤ length ks → length (flat box_floats (take j ks)) ≡ 5 * j
 first-long ks j h = boxes-long (take j ks) ∙ ap (λ (n : ℕ). 5 * n) (length-take-le j ks h)
 
 module _ (t : Track) (vs : List Val) (h : Is Tr.the_row t vs) where
@@ -73,7 +71,7 @@ unfolding freeze_track
 full e vs h =
     let t : Track = e.track in
     let i : Is Tr.the_row t h.0.1.0 = h.1.1.1.0 in
-    let d : List Float = direction_floats t.direction ++ flat kept_floats t.kept in
+    let d : List Float = direction_floats t.direction ++ flat box_floats t.kept in
     let l : List Float = list_floats t.list ++ d in
     let b : List Float = box_floats t.last ++ l in
     let s : List Float = filter_floats t.saved ++ b in (
@@ -83,7 +81,7 @@ full e vs h =
         length-append (filter_floats t.saved) b,
         length-append (box_floats t.last) l,
         length-append (list_floats t.list) d,
-        length-append (direction_floats t.direction) (flat kept_floats t.kept),
+        length-append (direction_floats t.direction) (flat box_floats t.kept),
         first-filter t _ i,
         saved-filter t _ i,
         box-long t.last,
@@ -92,7 +90,7 @@ full e vs h =
         boxes-long t.kept,
         kept-long t _ i,
       ),
-      omega (arith, length-map t.kept kept_tag, kept-long t _ i),
+      omega (arith, length-map t.kept tag_of, kept-long t _ i),
     )
 
 -- ---- the writes one after another
@@ -108,7 +106,7 @@ module _ (e : Tracked) where
       → c ≡ sets b (k + 112) (box_floats t.last)
       → d ≡ sets c (k + 117) (list_floats t.list)
       → f ≡ sets d (k + 121) (direction_floats t.direction)
-      → r ≡ sets f (k + 123) (flat kept_floats t.kept)
+      → r ≡ sets f (k + 123) (flat box_floats t.kept)
       → r ≡ sets l k (floats_of e)
   unfolding freeze_track
   floats-put vs h k l a b c d f r p₁ p₂ p₃ p₄ p₅ p₆ =
@@ -121,15 +119,15 @@ module _ (e : Tracked) where
       (sets-next a b r (k + 56) (k + 112) (filter_floats t.saved) _ p₂ two
       (sets-next b c r (k + 112) (k + 117) (box_floats t.last) _ p₃ three
       (sets-next c d r (k + 117) (k + 121) (list_floats t.list) _ p₄ four
-      (sets-next d f r (k + 121) (k + 123) (direction_floats t.direction) (flat kept_floats t.kept) p₅ five p₆))))
+      (sets-next d f r (k + 121) (k + 123) (direction_floats t.direction) (flat box_floats t.kept) p₅ five p₆))))
 
   -- its words: seven stores and a run
   pub words-put : (k frozen last list direction : ℕ) (l r : List ℕ)
-      → frozen ≡ flag_of t.frozen
-      → last ≡ box_tag t.last
-      → list ≡ list_tag t.list
-      → direction ≡ direction_tag t.direction
-      → r ≡ sets (set (set (set (set (set (set (set l k frozen) (k + 1) t.age) (k + 2) t.streak) (k + 3) t.since) (k + 4) last) (k + 5) list) (k + 6) direction) (k + 7) (map kept_tag t.kept)
+      → frozen ≡ from_bool t.frozen
+      → last ≡ tag_of t.last
+      → list ≡ tag_of t.list
+      → direction ≡ tag_of t.direction
+      → r ≡ sets (set (set (set (set (set (set (set l k frozen) (k + 1) t.age) (k + 2) t.streak) (k + 3) t.since) (k + 4) last) (k + 5) list) (k + 6) direction) (k + 7) (map tag_of t.kept)
       → r ≡ sets l k (words_of e)
   unfolding freeze_track
   words-put k frozen last list direction l r p₁ p₂ p₃ p₄ p = rw (← p₁, ← p₂, ← p₃, ← p₄) (simp unary_clauses at p)

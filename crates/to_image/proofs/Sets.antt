@@ -1,12 +1,13 @@
 -- Runs of stores: one after another, an element more of a list's, of its images' or of one value's. Assumes nothing.
 use mathlib.Core.Path.{◌≡◌, refl, sym, ap, ap₂, ◌∙◌}
-use mathlib.Core.List.{List, [], ◌∷◌, ◌++◌, append-nil}
-use Prim.Native.Nat.{ℕ, suc, ◌+◌, ◌-◌, ◌≤◌, ◌<◌}
+use mathlib.Core.List.{List, [], ◌∷◌, ◌++◌, append-nil, append_assoc}
+use borrow.Rule.Slice.PartMut.{put_mid}
+use Prim.Native.Nat.{ℕ, suc, ◌+◌, ◌≤◌, ◌<◌}
 use native.Mathlib.Nat.{add-zero, add-suc, suc-add}
 use native.Mathlib.Numerals.{add-one}
 use native.Mathlib.Omega.{arith}
-use lib.ListN.{length, get_or, set, take, replicate, length-replicate, replicate-append-replicate}
-use lib.Seq.{sets, take-suc, take_all, length-take-le}
+use lib.ListN.{length, get_or, set, take, drop, replicate, length-replicate}
+use lib.Seq.{sets, sets-eq, drop-drop, take-suc, take_all, length-take-le}
 use Rattle.lists.specs.Lists.{flat}
 use Rattle.lists.proofs.All.{flat_append}
 
@@ -31,26 +32,20 @@ module _ {ℓ} {A : Type ℓ} where
   pub sets-done : (l m : List A) (k : ℕ) (xs : List A) (j : ℕ) → m ≡ sets l k (take j xs) → length xs ≤ j → m ≡ sets l k xs
   sets-done l m k xs j e h = e ∙ ap (sets l k) (take_all j xs h)
 
-  -- a loop that stores v from k on: at first, one turn more, and at last
-  pub fill-first : (l : List A) (k : ℕ) (v : A) → l ≡ sets l k (replicate (k - k) v)
-  fill-first l k v =
-      let none : 0 ≡ k - k = omega arith in
-      ap (λ (n : ℕ). sets l k (replicate n v)) none
-
-  pub fill-turn : (l m : List A) (k a : ℕ) (v : A) → m ≡ sets l k (replicate (a - k) v) → k ≤ a → set m a v ≡ sets l k (replicate (a + 1 - k) v)
-  fill-turn l m k a v e h =
-      let more : a - k + 1 ≡ a + 1 - k = omega arith in
-      sets-next l m (set m a v) k a (replicate (a - k) v) (v ∷ []) e (omega (arith, length-replicate (a - k) v)) refl
-      ∙ ap (sets l k) (replicate-append-replicate (a - k) 1 v ∙ ap (λ (n : ℕ). replicate n v) more)
-
-  pub fill_done : (l m : List A) (k a n : ℕ) (v : A) → m ≡ sets l k (replicate (a - k) v) → a ≡ k + n → m ≡ sets l k (replicate n v)
-  fill_done l m k a n v e h =
-      let all : a - k ≡ n = omega arith in
-      e ∙ ap (λ (i : ℕ). sets l k (replicate i v)) all
-
 -- one turn more of a loop that stores g of each from k on
 pub flat-turn : {A B : Type 0} (g : A → List B) (l m r : List B) (k n : ℕ) (xs : List A) (j : ℕ) (d : A) → m ≡ sets l k (flat g (take j xs)) → j < length xs → n ≡ k + length (flat g (take j xs)) → r ≡ sets m n (g (get_or xs j d))
     → r ≡ sets l k (flat g (take (j + 1) xs))
 flat-turn {A} {B} g l m r k n xs j d e h f p =
     sets-next l m r k n (flat g (take j xs)) (g (get_or xs j d)) e f p
     ∙ ap (sets l k) (sym (ap (flat g) (ap (λ (i : ℕ). take i xs) (add-one j) ∙ take-suc xs j d h) ∙ flat_append g (take j xs) (get_or xs j d ∷ []) ∙ ap (λ (z : List B). flat g (take j xs) ++ z) (append-nil (g (get_or xs j d)))))
+
+-- a run written over a part is a run of stores
+pub mid-sets : {A : Type 0} (l : List A) (k n : ℕ) (xs : List A) → n ≡ length xs → k + n ≤ length l → put_mid k n l xs ≡ sets l k xs
+mid-sets l k n xs e h =
+    ap (λ r. take k l ++ (xs ++ r)) (drop-drop n k l ∙ ap (λ m. drop (k + m) l) e)
+    ∙ sym (append_assoc (take k l) xs (drop (k + length xs) l))
+    ∙ sym (sets-eq xs l k (omega (arith, e, h)))
+
+-- the same, of v all along
+pub mid-filled : {A : Type 0} (l : List A) (k m n : ℕ) (v : A) {r : List A} {j : ℕ} → r ≡ replicate j v → j ≡ n → m ≡ n → k + m ≤ length l → put_mid k m l r ≡ sets l k (replicate n v)
+mid-filled {A} l k m n v {r} {j} f e p h = rw (f, e) (mid-sets l k m (replicate n v) (omega (arith, p, length-replicate n v)) h)

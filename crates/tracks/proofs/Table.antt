@@ -1,4 +1,5 @@
 -- The table of tracks: one track more, and one more turn of each loop that fills it. Assumes nothing.
+use Rattle.std.specs.Prelude.{Option}
 use mathlib.Core.Path.{◌≡◌, refl, sym, ap, ◌∙◌}
 use mathlib.Core.Bool.{Bool, true, false}
 use mathlib.Core.List.{List, [], ◌∷◌, ◌++◌, map, append_assoc, append-nil}
@@ -13,7 +14,6 @@ use Rattle.lists.proofs.Tab.{length-tab}
 use Rattle.lists.proofs.Keep.{keep_append, keep-short}
 use Rattle.lists.proofs.All.{map-append}
 use Rattle.object.specs.declared.Detection.{Detection}
-use Rattle.strack.specs.declared.Kept.{Kept}
 use Rattle.frame.specs.declared.Tracked.{Tracked}
 use Rattle.frame.specs.State.{blank}
 use Rattle.tracks.specs.declared.Tracks.{Tracks}
@@ -77,25 +77,25 @@ module _ (p : Tracked → Bool) (f : Tracked → Tracked) (l : List Tracked) whe
 
 -- ---- the loop that gives
 
-pub given-more : (dt : ℕ) (es : List Tracked) (ks : List Kept) (i : ℕ) (d : Tracked) (k : Kept) → i < length es → i < length ks
+pub given-more : (dt : ℕ) (es : List Tracked) (ks : List (Option Detection)) (i : ℕ) (d : Tracked) (k : Option Detection) → i < length es → i < length ks
     → given_all dt (take (suc i) es) ks ≡ given_all dt (take i es) ks ++ (given_one dt (get_or ks i k) (get_or es i d) ∷ [])
 given-more dt [] ks i d k h m = absurd (not-suc-le-zero h)
 given-more dt (e ∷ es) [] i d k h m = absurd (not-suc-le-zero m)
 given-more dt (e ∷ es) (g ∷ ks) zero d k h m = refl
 given-more dt (e ∷ es) (g ∷ ks) (suc i) d k h m = ap (λ l. given_one dt g e ∷ l) (given-more dt es ks i d k (le_of_suc-le-suc h) (le_of_suc-le-suc m))
 
-pub few-given : (dt : ℕ) (es : List Tracked) (ks : List Kept) → length (given_all dt es ks) ≤ length es
+pub few-given : (dt : ℕ) (es : List Tracked) (ks : List (Option Detection)) → length (given_all dt es ks) ≤ length es
 few-given dt [] ks = omega arith
 few-given dt (e ∷ es) [] = omega arith
 few-given dt (e ∷ es) (k ∷ ks) = omega (arith, few-given dt es ks)
 
-pub few-taken : (dt : ℕ) (es : List Tracked) (ks : List Kept) (i : ℕ) → length (given_all dt (take i es) ks) ≤ i
+pub few-taken : (dt : ℕ) (es : List Tracked) (ks : List (Option Detection)) (i : ℕ) → length (given_all dt (take i es) ks) ≤ i
 few-taken dt es ks i = omega (arith, few-given dt (take i es) ks, length-take i es)
 
-pub given-room : (dt : ℕ) (es : List Tracked) (ks : List Kept) (i : ℕ) (w : Tracks) → w ≡ tracks_of (given_all dt (take i es) ks) → i < 64 → w.count < 64
+pub given-room : (dt : ℕ) (es : List Tracked) (ks : List (Option Detection)) (i : ℕ) (w : Tracks) → w ≡ tracks_of (given_all dt (take i es) ks) → i < 64 → w.count < 64
 given-room dt es ks i w e h = has_room (given_all dt (take i es) ks) w e (omega (arith, few-taken dt es ks i))
 
-pub given-turn : (dt : ℕ) (es : List Tracked) (ks : List Kept) (i : ℕ) (d : Tracked) (k : Kept) (w r : Tracks) (g : Tracked) → w ≡ tracks_of (given_all dt (take i es) ks)
+pub given-turn : (dt : ℕ) (es : List Tracked) (ks : List (Option Detection)) (i : ℕ) (d : Tracked) (k : Option Detection) (w r : Tracks) (g : Tracked) → w ≡ tracks_of (given_all dt (take i es) ks)
     → i < length es → i < length ks → i < 64 → g ≡ given_one dt (get_or ks i k) (get_or es i d) → r ≡ pushed w g → r ≡ tracks_of (given_all dt (take (i + 1) es) ks)
 given-turn dt es ks i d k w r g e h m s p q =
     q ∙ rw (e, p, add-one i, given-more dt es ks i d k h m) (pushed_of (given_all dt (take i es) ks) (given_one dt (get_or ks i k) (get_or es i d)) (omega (arith, few-taken dt es ks i)))

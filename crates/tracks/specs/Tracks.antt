@@ -1,7 +1,6 @@
 -- Document 01, item 6: the tracks on their way through a frame, as the code keeps them. Definitions only.
-use Rattle.std.specs.Prelude.{List, [], ◌∷◌, ◌++◌, ℕ, suc, ◌-◌, length, take, replicate}
+use Rattle.std.specs.Prelude.{List, [], ◌∷◌, ◌++◌, ℕ, suc, ◌-◌, length, take, replicate, Option}
 use Rattle.object.specs.declared.Detection.{Detection}
-use Rattle.strack.specs.declared.Kept.{Kept}
 use Rattle.frame.specs.declared.Tracked.{Tracked}
 use Rattle.frame.specs.State.{blank}
 use Rattle.one_track.specs.OneTrack.{given_one, newborn}
@@ -19,7 +18,7 @@ tracks_in t = take t.count t.table
 -- ---- boxes and misses
 
 -- each track in turn is given what it was granted
-abbrev pub given_all : ℕ → List Tracked → List Kept → List Tracked
+abbrev pub given_all : ℕ → List Tracked → List (Option Detection) → List Tracked
 given_all dt [] ks = []
 given_all dt (e ∷ es) [] = []
 given_all dt (e ∷ es) (k ∷ ks) = given_one dt k e ∷ given_all dt es ks

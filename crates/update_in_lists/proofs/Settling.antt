@@ -1,7 +1,7 @@
 -- The frame call once its tracks are tested: its pairs, and the loops after them, of boxes and misses, births, reports and the tracks written back. Assumes nothing.
+use Rattle.std.specs.Prelude.{Option, None}
 use mathlib.Core.Path.{◌≡◌, refl, sym, ap, ap₂, subst, subst₂, ◌∙◌}
 use mathlib.Core.Bool.{Bool, true, false, ◌&&◌}
-use mathlib.Core.Option.{none}
 use mathlib.Core.List.{List, [], ◌∷◌, ◌++◌, map, append-nil}
 use Prim.Native.Nat.{ℕ, suc, ◌+◌, ◌-◌, ◌*◌, ◌≤◌, ◌<◌}
 use native.Mathlib.Omega.{arith}
@@ -9,22 +9,23 @@ use lib.Dec.{ltb}
 use lib.Ieee.{Float}
 use lib.ListN.{length, take, drop, get_or, set, replicate, length-append, length-map, length-replicate, drop_of_length-le, get_or-append}
 use lib.Seq.{take-length, drop-cons}
+use Rattle.std.specs.Prelude.{Ok, Err}
 use Rattle.lists.specs.Lists.{pick, keep, every, All}
 use Rattle.lists.proofs.Tab.{length-tab}
 use Rattle.lists.proofs.Keep.{keep-short}
 use Rattle.lapjv_walk.proofs.Cases.{and_left, and_right}
 use Rattle.object.specs.declared.Detection.{Detection}
+use Rattle.object.specs.declared.Refusal.{Refusal}
+use Rattle.object.specs.declared.Refusal.TheVariants.{FullTable}
 use Rattle.matching.specs.Associate.{det_at}
-use Rattle.strack.specs.declared.Kept.{Kept}
 use Rattle.frame.specs.declared.Settings.{Settings}
 use Rattle.frame.specs.declared.Tracked.{Tracked}
 use Rattle.frame.specs.State.{blank, state_of, state_rules}
 use Rattle.frame.specs.Objects.{Obj, objects_of}
-use Rattle.frame.specs.Rounds.{View, Work, rounds, kept_of, grant_of}
+use Rattle.frame.specs.Rounds.{View, Work, rounds, grant_of}
 use Rattle.frame.specs.Frame.{Report, early, tracked_view, is_young, is_reported, report_of, reports_of}
-use Rattle.frame.specs.Contract.{told_of, call_of}
-use Rattle.frame.specs.declared.Outcome.{Outcome}
-use Rattle.rules.specs.Rules.{outcome_at, Told}
+use Rattle.frame.specs.Contract.{call_of}
+use Rattle.rules.specs.Rules.{Told}
 use Rattle.frame.proofs.Rules.{Clear, clear}
 use Rattle.frame.proofs.Seats.{rounds-length}
 use Rattle.objects.specs.declared.Dets.{Dets}
@@ -52,14 +53,10 @@ use Rattle.frame_in_lists.specs.InPlace.{settings_in, ToldOf, Closed}
 use Rattle.frame_in_lists.proofs.Turns.{Holds, holds_at, Keeping, keeping_none, still, keeping-taken, keeping-left, young, young-taken, young-left, born-more}
 use Rattle.frame_in_lists.proofs.Looking.{views_by, ahead_in, Looked, looked-fine, looked-holds, looked-views}
 use Rattle.frame_in_lists.proofs.Storing.{stored_from, stored-turn, stored-done}
-use Rattle.update_in_lists.specs.declared.Reply.{Reply}
-use Rattle.update_in_lists.specs.Host.{Hosted}
+use Rattle.update_in_lists.specs.Host.{telling, Hosted}
 use Rattle.update_in_lists.proofs.Stepping.{every-keep, stop-early, not_stopped, stop-full, few-left, is-ready, left-young, step-accepted}
 
 -- ---- the same, by equations
-
-pub replied-as : {i i' : TrackerImage} {input boxes boxes' : List Float} {ids ids' : List ℕ} {r q : Reply} → r ≡ q → Hosted i input boxes ids i' q boxes' ids' → Hosted i input boxes ids i' r boxes' ids'
-replied-as {i} {i'} {input} {boxes} {boxes'} {ids} {ids'} {r} {q} e h = subst (λ (x : Reply). Hosted i input boxes ids i' x boxes' ids') (sym e) h
 
 pub looked-as : {i : TrackerImage} {s : Settings} {w w' : List Tracked} {vb vd vl vp vb' vd' vl' vp' : List Float} {from n n' u : ℕ} → w' ≡ w → vb' ≡ vb → vd' ≡ vd → vl' ≡ vl → vp' ≡ vp → n' ≡ n → Looked i s w vb vd vl vp from n u → Looked i s w' vb' vd' vl' vp' from n' u
 looked-as {i} {s} {w} {w'} {vb} {vd} {vl} {vp} {vb'} {vd'} {vl'} {vp'} {from} {n} {n'} {u} a b c d e f h =
@@ -71,7 +68,7 @@ looked-as {i} {s} {w} {w'} {vb} {vd} {vl} {vp} {vb'} {vd'} {vl'} {vp'} {from} {n
 pub record Open (i : TrackerImage) (s : Settings) (input boxes : List Float) (ids : List ℕ) : Type 0 where
   pub same : s ≡ settings_in i
   pub fine : (meant i && state_rules (thaw_tracker i)) ≡ true
-  pub unrefused : early (thaw_tracker i).frames (call_of input boxes ids) ≡ none
+  pub unrefused : early (thaw_tracker i).frames (call_of input boxes ids) ≡ None
 
 module _ {i : TrackerImage} {s : Settings} {input boxes : List Float} {ids : List ℕ} (o : Open i s input boxes ids) where
   pub head : tagged (byte_in i) ≡ true
@@ -93,18 +90,16 @@ pub record Paired (i : TrackerImage) (s : Settings) (input boxes : List Float) (
   pub pairs : Pairs (rounds (settings_in i) (map (tracked_view (settings_in i)) (ahead_in i)) (objects_of input)) p
   pub room : length (ahead_in i) + p.left.n ≤ 64
 
--- every track was looked at, and the early rows gave n
-module _ {i : TrackerImage} {s : Settings} {w : List Tracked} {vb vd vl vp : List Float} {from ahead u : ℕ} (h : Looked i s w vb vd vl vp from ahead u) (l : count_in i ≤ u) (input boxes : List Float) (ids : List ℕ) {n : ℕ} (o : Outcome) (p : n ≡ told_of o) (q : Told (frames_in i) (length input) (length boxes) (length ids) o) where
-  row : n ≡ told_of (outcome_at (early (thaw_tracker i).frames (call_of input boxes ids)))
+-- every track was looked at: what the early rows say decides
+module _ {i : TrackerImage} {s : Settings} {w : List Tracked} {vb vd vl vp : List Float} {from ahead u : ℕ} (h : Looked i s w vb vd vl vp from ahead u) (l : count_in i ≤ u) (input boxes : List Float) (ids : List ℕ) where
+  pub early-refused : {q : Refusal} → Told (frames_in i) (length input) (length boxes) (length ids) (Err q) → Hosted i input boxes ids i (telling (Err q)) boxes ids
   unfolding thaw_tracker
-  row = p ∙ ap told_of (q (call_of input boxes ids) refl refl refl)
+  early-refused {q} p = stop-early i input boxes ids (looked-fine h l) q p
 
-  pub early-refused : (n ≡ 0 → ⊥) → Hosted i input boxes ids i (record { number = n; count = 0 }) boxes ids
-  early-refused z = stop-early i input boxes ids (looked-fine h l) n row z
-
-  pub opened : n ≡ 0 → {v : Views} → v ≡ views_by ahead vb vd vl vp → Opened i s input boxes ids w ahead v
-  opened z e = record {
-    on = record { same = h.same; fine = looked-fine h l; unrefused = not_stopped i input boxes ids (looked-fine h l) n row z };
+  pub opened : Told (frames_in i) (length input) (length boxes) (length ids) (Ok tt) → {v : Views} → v ≡ views_by ahead vb vd vl vp → Opened i s input boxes ids w ahead v
+  unfolding thaw_tracker
+  opened p e = record {
+    on = record { same = h.same; fine = looked-fine h l; unrefused = not_stopped i input boxes ids (looked-fine h l) p };
     holds = looked-holds h l;
     views = e ∙ looked-views h l;
   }
@@ -120,7 +115,7 @@ module _ {i : TrackerImage} {s : Settings} {input boxes : List Float} {ids : Lis
     pub opened-left : p.left.n ≤ 64
     opened-left = few-left i input boxes ids o.on.fine o.on.unrefused p opened-pairs (is-clear o.on).input
 
-    pub full-refused : 64 < ahead + p.left.n → Hosted i input boxes ids i (record { number = 7; count = 0 }) boxes ids
+    pub full-refused : 64 < ahead + p.left.n → Hosted i input boxes ids i (telling (Err FullTable)) boxes ids
     full-refused h = stop-full i input boxes ids o.on.fine o.on.unrefused p opened-pairs (omega (arith, h, o.holds.count))
 
     pub opened-paired : ahead + p.left.n ≤ 64 → Paired i s input boxes ids p
@@ -128,7 +123,7 @@ module _ {i : TrackerImage} {s : Settings} {input boxes : List Float} {ids : Lis
 
 -- ---- the pairs
 
-abbrev pub pairing_of : List Kept → ℕ → List Float → Pairing
+abbrev pub pairing_of : List (Option Detection) → ℕ → List Float → Pairing
 pairing_of ks n cells = record { grants = ks; left = record { n = n; cells = cells } }
 
 -- the tracks that were given something and have not aged out, and those that the frame leaves
@@ -148,7 +143,7 @@ module _ {i : TrackerImage} {s : Settings} {input boxes : List Float} {ids : Lis
       let w : Work = rounds (settings_in i) (map (tracked_view (settings_in i)) (ahead_in i)) (objects_of input) in
       let n : length w.slots ≡ length (ahead_in i) = rounds-length (settings_in i) (map (tracked_view (settings_in i)) (ahead_in i)) (objects_of input) ∙ length-map (ahead_in i) (tracked_view (settings_in i)) in
       ap length h.pairs.0
-      ∙ omega (arith, length-append (map grant_of w.slots) (replicate (64 - length w.slots) (kept_of none)), length-map w.slots grant_of, length-replicate (64 - length w.slots) (kept_of none), n, h.room)
+      ∙ omega (arith, length-append (map grant_of w.slots) (replicate (64 - length w.slots) None), length-map w.slots grant_of, length-replicate {A = Option Detection} (64 - length w.slots) None, n, h.room)
 
   pub cells-long : length p.left.cells ≡ 320
   unfolding dets_of
@@ -206,7 +201,7 @@ module _ {i : TrackerImage} {s : Settings} {input boxes : List Float} {ids : Lis
     pub can-give : (s.delta_t ≤ 8) × (givable (get_or w g d) ≡ true)
     can-give = (subst (λ (x : Settings). x.delta_t ≤ 8) (sym h.paired.on.same) (settles h.paired).delta_t, ap givable at ∙ every-at givable (ahead_in i) g d (givables h.paired) there)
 
-    module _ (k : Kept) {e : Tracked} (is : e ≡ given_one s.delta_t (get_or p.grants g k) (get_or w g d)) where
+    module _ (k : Option Detection) {e : Tracked} (is : e ≡ given_one s.delta_t (get_or p.grants g k) (get_or w g d)) where
       given : e ≡ given_one (settings_in i).delta_t (get_or p.grants g k) (get_or (ahead_in i) g d)
       given = is ∙ ap₂ (λ (x : Settings) (y : Tracked). given_one x.delta_t (get_or p.grants g k) y) h.paired.on.same at
 
@@ -243,14 +238,14 @@ module _ {i : TrackerImage} {s : Settings} {input boxes : List Float} {ids : Lis
 -- ---- births
 
 pub record Bearing (i : TrackerImage) (s : Settings) (input boxes : List Float) (ids : List ℕ) (births : ℕ) (cells : List Float) (n : ℕ) (w : List Tracked) (b : ℕ) : Type 0 where
-  pub grants : List Kept
+  pub grants : List (Option Detection)
   pub paired : Paired i s input boxes ids (pairing_of grants births cells)
   pub count : n ≡ length (young_in i (pairing_of grants births cells))
   pub reached : b ≤ births
   pub holds : Holds (table.joined (young_in i (pairing_of grants births cells)) (thaw_tracker i).issued (det_at cells) b) (n + b) w
 
 module _ {i : TrackerImage} {s : Settings} {input boxes : List Float} {ids : List ℕ} {births : ℕ} {cells : List Float} {n : ℕ} {w : List Tracked} where
-  pub bearing-first : {ks : List Kept} → Paired i s input boxes ids (pairing_of ks births cells) → Holds (young_in i (pairing_of ks births cells)) n w → Bearing i s input boxes ids births cells n w 0
+  pub bearing-first : {ks : List (Option Detection)} → Paired i s input boxes ids (pairing_of ks births cells) → Holds (young_in i (pairing_of ks births cells)) n w → Bearing i s input boxes ids births cells n w 0
   bearing-first {ks} h k =
       let y : List Tracked = young_in i (pairing_of ks births cells) in
       let z : n ≡ n + 0 = omega arith in
@@ -400,7 +395,7 @@ module _ {i : TrackerImage} {s : Settings} {input boxes₀ : List Float} {ids₀
         }
 
   -- all of them told and written, and the lists closed: the call's answer
-  pub telling-done : r ≡ 0 → {i₂ : TrackerImage} → Closed (issued_in i + births) live (frames_in i + 1) i₁ i₂ → Hosted i input boxes₀ ids₀ i₂ (record { number = 0; count = n }) boxes ids
+  pub telling-done : r ≡ 0 → {i₂ : TrackerImage} → Closed (issued_in i + births) live (frames_in i + 1) i₁ i₂ → Hosted i input boxes₀ ids₀ i₂ (telling (Ok n)) boxes ids
   unfolding thaw_tracker
   telling-done z {i₂} c =
       let v : Written (rs es) n boxes₀ ids₀ boxes ids = subst (λ (l : List Tracked). Written (rs l) n boxes₀ ids₀ boxes ids) (ap (told i p) z ∙ tracks-in es) h.written in

@@ -1,7 +1,7 @@
 -- The answer of the frame call, from what its tests and loops leave. Assumes nothing.
+use Rattle.std.specs.Prelude.{Some, None}
 use mathlib.Core.Path.{◌≡◌, refl, sym, ap, ap₂, subst, ◌∙◌}
 use mathlib.Core.Bool.{Bool, true, false, ◌&&◌}
-use mathlib.Core.Option.{Option, none, some}
 use mathlib.Core.List.{List, [], ◌∷◌, ◌++◌, map}
 use Prim.Native.Nat.{ℕ, zero, suc, ◌+◌, ◌≤◌, ◌<◌}
 use native.Mathlib.Omega.{arith}
@@ -9,6 +9,7 @@ use borrow.Author.Tests.{leb-false, le-leb, ne_eqb}
 use lib.Dec.{leb, eqb}
 use lib.Ieee.{Float}
 use lib.ListN.{length}
+use Rattle.std.specs.Prelude.{Ok, Err}
 use Rattle.lists.specs.Lists.{put, keep, every}
 use Rattle.lists.proofs.Keep.{keep_append}
 use Rattle.lapjv_walk.proofs.Cases.{and_left, and_right}
@@ -20,13 +21,12 @@ use Rattle.frame.specs.declared.Settings.{Settings}
 use Rattle.frame.specs.declared.Tracked.{Tracked}
 use Rattle.frame.specs.declared.Tracker.{Tracker}
 use Rattle.frame.specs.declared.Answer.{Answer}
-use Rattle.frame.specs.declared.Outcome.TheVariants.{Accepted}
 use Rattle.frame.specs.State.{live, state_of, state_rules}
 use Rattle.frame.specs.Objects.{objects_of}
 use Rattle.frame.specs.Rounds.{rounds}
 use Rattle.frame.specs.Frame.{Call, Report, early, tracked_view, predicted_tracks, report_of, is_reported, snoc_if, reports_of, is_young, accepted_frame}
-use Rattle.frame.specs.Contract.{told_of, call_of, Framed}
-use Rattle.rules.specs.Rules.{outcome_at}
+use Rattle.frame.specs.Contract.{call_of, Framed}
+use Rattle.rules.specs.Rules.{Told}
 use Rattle.objects.specs.Dets.{dets_in}
 use Rattle.rounds.specs.declared.Pairing.{Pairing}
 use Rattle.rounds.specs.Pairs.{Pairs}
@@ -38,11 +38,11 @@ use Rattle.reports.specs.Written.{Written}
 use Rattle.settling.specs.Settled.{Answered, joined, settled_on, Ready}
 use Rattle.oc_sort_tracker.specs.Refused.{refused_with}
 use Rattle.oc_sort_tracker.proofs.Agree.{refused_full, accepted-agree, ready, left-short}
-use Rattle.oc_sort_tracker.proofs.Framing.{unsound, early-refused, accepted}
+use Rattle.oc_sort_tracker.proofs.Framing.{told-refused, told-accepted, unsound, early-refused, accepted}
 use Rattle.image.specs.declared.TrackerImage.{TrackerImage}
 use Rattle.image.specs.Image.{freeze_tracker, thaw_tracker, meant}
-use Rattle.update_in_lists.specs.Host.{Hosted}
-use Rattle.update_in_lists.proofs.Hosting.{nonzero, unmeant, stopped, stepped}
+use Rattle.update_in_lists.specs.Host.{telling, Hosted}
+use Rattle.update_in_lists.proofs.Hosting.{unmeant, stopped, stepped}
 
 -- ---- ageing before the reports
 
@@ -91,12 +91,12 @@ module _ (i : TrackerImage) (input boxes : List Float) (ids : List ℕ) where
   abbrev call : Call
   call = call_of input boxes ids
 
-  pub unusable : (meant i && state_rules t) ≡ false → Hosted i input boxes ids i (record { number = 1; count = 0 }) boxes ids
+  pub unusable : (meant i && state_rules t) ≡ false → Hosted i input boxes ids i (telling (Err UnsoundState)) boxes ids
   unusable h = go (meant i) refl h
     where
-      go : (b : Bool) → meant i ≡ b → (b && state_rules t) ≡ false → Hosted i input boxes ids i (record { number = 1; count = 0 }) boxes ids
+      go : (b : Bool) → meant i ≡ b → (b && state_rules t) ≡ false → Hosted i input boxes ids i (telling (Err UnsoundState)) boxes ids
       go false e f = unmeant i input boxes ids e
-      go true e f = stopped i input boxes ids e t refl (refused_with t UnsoundState) boxes ids (unsound t input boxes ids (refused_with t UnsoundState) f refl) 1 refl (λ z. omega (arith, z))
+      go true e f = stopped i input boxes ids e t refl (refused_with t UnsoundState) boxes ids (unsound t input boxes ids (refused_with t UnsoundState) f refl) refl
 
   module _ (usable : (meant i && state_rules t) ≡ true) where
     pub means : meant i ≡ true
@@ -105,21 +105,15 @@ module _ (i : TrackerImage) (input boxes : List Float) (ids : List ℕ) where
     pub fine : state_rules t ≡ true
     fine = and_right (meant i) (state_rules t) usable
 
-    pub stop-early : (n : ℕ) → n ≡ told_of (outcome_at (early t.frames call)) → (n ≡ 0 → ⊥) → Hosted i input boxes ids i (record { number = n; count = 0 }) boxes ids
-    stop-early n p z = go (early t.frames call) refl p
-      where
-        go : (o : Option Refusal) → early t.frames call ≡ o → n ≡ told_of (outcome_at o) → Hosted i input boxes ids i (record { number = n; count = 0 }) boxes ids
-        go none e f = absurd (z f)
-        go (some q) e f = stopped i input boxes ids means t refl (refused_with t q) boxes ids (early-refused t input boxes ids (refused_with t q) fine q e refl) n f z
+    pub stop-early : (q : Refusal) → Told t.frames (length input) (length boxes) (length ids) (Err q) → Hosted i input boxes ids i (telling (Err q)) boxes ids
+    stop-early q p =
+        let e : early t.frames call ≡ Some q = told-refused (early t.frames call) q (sym (p call refl refl refl)) in
+        stopped i input boxes ids means t refl (refused_with t q) boxes ids (early-refused t input boxes ids (refused_with t q) fine q e refl) refl
 
-    pub not_stopped : (n : ℕ) → n ≡ told_of (outcome_at (early t.frames call)) → n ≡ 0 → early t.frames call ≡ none
-    not_stopped n p z = go (early t.frames call) (sym p ∙ z)
-      where
-        go : (o : Option Refusal) → told_of (outcome_at o) ≡ 0 → o ≡ none
-        go none f = refl
-        go (some q) f = absurd (nonzero q f)
+    pub not_stopped : Told t.frames (length input) (length boxes) (length ids) (Ok tt) → early t.frames call ≡ None
+    not_stopped p = told-accepted (early t.frames call) (sym (p call refl refl refl))
 
-    module _ (k : early t.frames call ≡ none) where
+    module _ (k : early t.frames call ≡ None) where
       abbrev pub es : List Tracked
       es = predicted_tracks (live t)
 
@@ -133,11 +127,11 @@ module _ (i : TrackerImage) (input boxes : List Float) (ids : List ℕ) where
         pub few-left : length input ≤ 320 → p.left.n ≤ 64
         few-left h = left-short t input ts refl p over h
 
-        pub stop-full : 64 < length es + p.left.n → Hosted i input boxes ids i (record { number = 7; count = 0 }) boxes ids
+        pub stop-full : 64 < length es + p.left.n → Hosted i input boxes ids i (telling (Err FullTable)) boxes ids
         stop-full h =
             let f : Framed t input boxes ids (refused_with t FullTable) boxes ids
             = accepted t input boxes ids (refused_with t FullTable) fine k boxes ids (refused_full t input ts refl p over (refused_with t FullTable) boxes ids (omega (arith, h, tracks-count es)) refl) in
-            stopped i input boxes ids means t refl (refused_with t FullTable) boxes ids f 7 refl (λ z. omega (arith, z))
+            stopped i input boxes ids means t refl (refused_with t FullTable) boxes ids f refl
 
         module _ (room : length es + p.left.n ≤ 64) where
           fits : ts.count + p.left.n ≤ 64
@@ -163,13 +157,13 @@ module _ (i : TrackerImage) (input boxes : List Float) (ids : List ℕ) where
           same-reports = ap (reports_of t.settings (t.frames + 1)) (sym left-young) ∙ reports-young t.settings (t.frames + 1) all
 
           abbrev answer : ℕ → Answer
-          answer n = record { outcome = Accepted; count = n; tracker = (settled_on t all p.left.n).next }
+          answer n = record { outcome = Ok n; tracker = (settled_on t all p.left.n).next }
 
           answered : (n : ℕ) (boxes' : List Float) (ids' : List ℕ) → Written (reports_of t.settings (t.frames + 1) fs) n boxes ids boxes' ids' → Answered (settled_on t all p.left.n) boxes ids (answer n) boxes' ids'
           unfolding settled_on
           answered n boxes' ids' w =
               let v : Written (reports_of t.settings (t.frames + 1) all) n boxes ids boxes' ids' = subst (λ (rs : List Report). Written rs n boxes ids boxes' ids') same-reports w in
-              record { outcome = refl; count = v.count; next = refl; boxes-after = v.boxes-after; ids-after = v.ids-after }
+              record { outcome = ap Ok v.count; next = refl; boxes-after = v.boxes-after; ids-after = v.ids-after }
 
           -- the state that the frame leaves
           abbrev pub state_after : Tracker
@@ -180,7 +174,7 @@ module _ (i : TrackerImage) (input boxes : List Float) (ids : List ℕ) where
           settled = ap (state_of t.settings (t.frames + 1) (t.issued + p.left.n)) (sym left-young)
 
           pub step-accepted : (image : TrackerImage) (n : ℕ) (boxes' : List Float) (ids' : List ℕ) → Written (reports_of t.settings (t.frames + 1) fs) n boxes ids boxes' ids' → image ≡ freeze_tracker state_after
-              → Hosted i input boxes ids image (record { number = 0; count = n }) boxes' ids'
+              → Hosted i input boxes ids image (telling (Ok n)) boxes' ids'
           step-accepted image n boxes' ids' w e =
               let a : Answered (accepted_frame t input) boxes ids (answer n) boxes' ids' = accepted-agree t input ts refl p over (answer n) boxes boxes' ids ids' fits (answered n boxes' ids' w) in
-              stepped i input boxes ids means t refl (answer n) boxes' ids' (accepted t input boxes ids (answer n) fine k boxes' ids' a) 0 refl refl image (e ∙ ap freeze_tracker settled)
+              stepped i input boxes ids means t refl (answer n) boxes' ids' (accepted t input boxes ids (answer n) fine k boxes' ids' a) refl image (e ∙ ap freeze_tracker settled)

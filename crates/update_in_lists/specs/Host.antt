@@ -1,6 +1,9 @@
 -- What the exported calls do: the tracker's calls on the state that an image stands for. Definitions only.
-use Rattle.std.specs.Prelude.{◌≡◌, Bool, true, false, List, ℕ, Float, length}
+use Rattle.std.specs.Prelude.{◌≡◌, Bool, true, false, List, ℕ, Float, length, Result}
+use Rattle.std.specs.Result.{result_unwrap_or}
+use Rattle.object.specs.declared.Refusal.{Refusal}
 use Rattle.object.specs.declared.Refusal.TheVariants.{UnsoundState}
+use Rattle.object.specs.Refusal.{told_of}
 use Rattle.frame.specs.declared.Tracker.{Tracker}
 use Rattle.frame.specs.Frame as frame
 use Rattle.frame.specs.Frame.{Call, Out, refused, reports, frame_of, boxes_after, ids_after}
@@ -26,6 +29,10 @@ frame_on i c = frame_by i c (meant i)
 
 abbrev pub reply_of : frame.Reply → Reply
 reply_of r = record { number = number_in r; count = length (reports_in r) }
+
+-- what the host is told of an outcome: the refusal's number, or 0, and how many reports stand in the buffers
+abbrev pub telling : Result ℕ Refusal → Reply
+telling o = record { number = told_of o; count = result_unwrap_or o 0 }
 
 -- a call on image i with this input and these buffers answered r, and left image', boxes' and ids'
 pub record Hosted (i : TrackerImage) (input boxes : List Float) (ids : List ℕ) (image' : TrackerImage) (r : Reply) (boxes' : List Float) (ids' : List ℕ) : Type 0 where

@@ -1,12 +1,13 @@
 -- The views as flat arrays: one track more, and what `assoc` reads at every place, past the tracks too. Assumes nothing.
 use mathlib.Core.Path.{◌≡◌, refl, sym, ap, ◌∙◌}
-use mathlib.Core.List.{List, [], ◌∷◌, map}
+use mathlib.Core.List.{List, [], ◌∷◌, ◌++◌, map, append_assoc}
+use borrow.Rule.Slice.PartMut.{put_mid}
 use Prim.Native.Nat.{ℕ, ◌+◌, ◌*◌, ◌≤◌, ◌<◌}
 use native.Mathlib.Numerals.{add-one}
 use native.Mathlib.Omega.{arith}
 use lib.Ieee.{Float}
-use lib.ListN.{length, get_or, take, length-map}
-use lib.Seq.{sets, take-suc, length-take-le}
+use lib.ListN.{length, get_or, take, drop, length-map}
+use lib.Seq.{sets, sets-eq, drop-drop, take-suc, length-take-le}
 use Rattle.lists.proofs.All.{map-append}
 use Rattle.matching.specs.Associate.{det_at, corners_at, step_at}
 use Rattle.frame.specs.Rounds.{View, no_view, view_at}
@@ -68,3 +69,11 @@ lasts-at vs = λ i j. four-at (λ (v : View). v.last) no_view refl 256 vs j i
 pub previous-at : (vs : List View) → det_at (views_of vs).previous ≡ λ j. (view_at vs j).previous
 unfolding views_of
 previous-at vs = λ i j. five-at (λ (v : View). v.previous) no_view refl 320 vs j i
+
+-- ---- a run of numbers written over a part of an array is a run of stores
+
+pub mid-sets : {A : Type 0} (l : List A) (k n : ℕ) (xs : List A) → n ≡ length xs → k + n ≤ length l → put_mid k n l xs ≡ sets l k xs
+mid-sets l k n xs e h =
+    ap (λ r. take k l ++ (xs ++ r)) (drop-drop n k l ∙ ap (λ m. drop (k + m) l) e)
+    ∙ sym (append_assoc (take k l) xs (drop (k + length xs) l))
+    ∙ sym (sets-eq xs l k (omega (arith, e, h)))

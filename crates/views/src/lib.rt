@@ -4,16 +4,17 @@
 ghost use Rattle.std.specs.Prelude.{◌≡◌, map, ◌+◌, ◌*◌, ◌≤◌, ◌<◌, length, take};
 ghost use Rattle.std.proofs.lemmas.List.Edits.{sets};
 ghost use Rattle.objects.specs.Dets.{five_of};
-ghost use Rattle.frame.specs.Frame.{detection_or, step_or, tracked_view};
+ghost use Rattle.frame.specs.Frame.{step_or, tracked_view};
 ghost use Rattle.matching.specs.Associate.{four_of};
 ghost use Rattle.views.specs.Views.{two_of, views_of};
 
 use frame::{Settings, Tracked};
 use matching::put_corners;
-use object::Detection;
-use strack::{Direction, LastBox};
+use object::{Corners, Detection};
+use strack::Direction;
 
 // For each of n tracks its predicted box, its direction, its last box and its previous box. Cells past them are NaN.
+// Stays: a count beside flat arrays: memory is fixed, without a heap, and `assoc` takes the numbers of one kind in a row.
 #[derive(Clone, Copy)]
 pub struct Views {
     pub n: usize,
@@ -25,61 +26,43 @@ pub struct Views {
 
 // ---- entries of the arrays
 
-fn put_step(cells: &mut [f32], j: usize, dy: f32, dx: f32)
-    requires { (j < 64) × (2 * j + 2 ≤ length cells.old) }
-    ensures { cells.new ≡ sets cells.old (2 * j) (two_of (record { dy = dy; dx = dx })) }
+// Writes numbers from `at` on.
+fn put_numbers(cells: &mut [f32], at: usize, numbers: &[f32])
+    requires { at + length numbers.now ≤ length cells.old }
+    ensures { cells.new ≡ sets cells.old at numbers.now }
 {
-    let at = 2 * j;
-    cells[at] = dy;
-    cells[at + 1] = dx;
+    cells[at..at + numbers.len()].copy_from_slice(numbers);
 }
 
 // 0, 0 for an unknown direction.
-fn put_direction(cells: &mut [f32], j: usize, d: Direction)
+fn put_direction(cells: &mut [f32], j: usize, d: Option<Direction>)
     requires { (j < 64) × (2 * j + 2 ≤ length cells.old) }
     ensures { cells.new ≡ sets cells.old (2 * j) (two_of (step_or d)) }
 {
-    match d {
-        Direction::Unknown => put_step(cells, j, 0.0, 0.0),
-        Direction::Known(dy, dx) => put_step(cells, j, dy, dx),
-    }
+    let numbers = match d {
+        None => [0.0; 2],
+        Some(v) => [v.dy, v.dx],
+    };
+    put_numbers(cells, 2 * j, &numbers);
 }
 
 fn put_detection(cells: &mut [f32], j: usize, d: Detection)
     requires { (j < 64) × (5 * j + 5 ≤ length cells.old) }
     ensures { cells.new ≡ sets cells.old (5 * j) (five_of d) }
 {
-    let at = 5 * j;
-    cells[at] = d.x1;
-    cells[at + 1] = d.y1;
-    cells[at + 2] = d.x2;
-    cells[at + 3] = d.y2;
-    cells[at + 4] = d.score;
+    put_numbers(cells, 5 * j, &[d.x1, d.y1, d.x2, d.y2, d.score]);
 }
 
 // ---- one track
 
-// -1 five times where there is no box.
-fn detection_or(l: LastBox) -> Detection
-    ensures { result ≡ detection_or l }
-{
-    match l {
-        LastBox::Unseen => Detection {
-            x1: -1.0,
-            y1: -1.0,
-            x2: -1.0,
-            y2: -1.0,
-            score: -1.0,
-        },
-        LastBox::Seen(x1, y1, x2, y2, score) => Detection {
-            x1,
-            y1,
-            x2,
-            y2,
-            score,
-        },
-    }
-}
+// Where there is no box.
+const PLACEHOLDER: Detection = Detection {
+    x1: -1.0,
+    y1: -1.0,
+    x2: -1.0,
+    y2: -1.0,
+    score: -1.0,
+};
 
 // What the rounds see of a track as it stands after predict, at place j.
 pub fn put_view(
@@ -95,14 +78,11 @@ pub fn put_view(
     ensures { (boxes.new ≡ sets boxes.old (4 * j) (four_of (tracked_view s e).box)) × (directions.new ≡ sets directions.old (2 * j) (two_of (tracked_view s e).direction)) × (lasts.new ≡ sets lasts.old (4 * j) (four_of (tracked_view s e).last)) × (previous.new ≡ sets previous.old (5 * j) (five_of (tracked_view s e).previous)) }
 {
     let t = e.track;
-    let filter = t.filter;
-    let direction = t.direction;
-    let last = t.last;
     let before = strack::k_previous_obs(t, s.delta_t);
-    put_corners(boxes, j, strack::get_state(filter));
-    put_direction(directions, j, direction);
-    put_corners(lasts, j, strack::corners(detection_or(last)));
-    put_detection(previous, j, detection_or(before));
+    put_corners(boxes, j, strack::get_state(t.filter));
+    put_direction(directions, j, t.direction);
+    put_corners(lasts, j, Corners::from(t.last.unwrap_or(PLACEHOLDER)));
+    put_detection(previous, j, before.unwrap_or(PLACEHOLDER));
 }
 
 // ---- all tracks
@@ -117,19 +97,16 @@ pub fn all(s: Settings, count: usize, table: [Tracked; 64]) -> Views
     let mut directions = [nan; 128];
     let mut lasts = [nan; 256];
     let mut previous = [nan; 320];
-    let mut j = 0;
-    while j < count {
-        let e = table[j];
+    for j in 0..count {
         put_view(
             s,
-            e,
+            table[j],
             j,
             &mut boxes,
             &mut directions,
             &mut lasts,
             &mut previous,
         );
-        j += 1;
     }
     Views {
         n: count,

@@ -1,78 +1,62 @@
-// Signed whole numbers in decimal, from -2^63 to 2^63 - 1, as the comparison's lines have them.
+// Whole numbers as the words of the comparison's lines say them: digits, at most so many, and nothing else.
 #![tactic(auto)]
 
-use protocol::{Count, byte_at, next, or_blank};
+ghost use Rattle.std.specs.Prelude.{◌≡◌, ◌<◌, ◌≤◌, length, IfSome};
 
-// A number of that size and sign; of a larger size its low bits.
-fn signed(minus: bool, size: u64) -> i64 {
-    if minus {
-        if 0 < size {
-            return !(((size - 1) % 0x8000_0000_0000_0000) as i64);
-        }
-    }
-    (size % 0x8000_0000_0000_0000) as i64
-}
-
-// Whether 64 bits hold a number of that size and sign.
-fn is_held(minus: bool, size: u64) -> bool {
-    (size < 0x8000_0000_0000_0000) | (minus & (size == 0x8000_0000_0000_0000))
-}
-
-// The number behind the blank at `at`, 0 where there is none.
-#[derive(Clone, Copy)]
-struct Whole {
-    good: bool,
-    value: i64,
-    end: usize,
-}
-
-fn whole_at(line: &[u8], at: usize) -> Whole {
-    let first = next(line, at);
-    let minus = byte_at(line, first) == b'-';
-    let from = if minus { first } else { at };
-    // 19 digits are below 2^64
-    let w = protocol::digits(line, from, 10, 19);
-    Whole {
-        good: (byte_at(line, at) == b' ')
-            & (1 < std::num::wrapping_sub_usize(w.end, from))
-            & (or_blank(line, w.end) == b' ')
-            & is_held(minus, w.value),
-        value: signed(minus, w.value),
-        end: w.end,
+// The value of a digit, of an upper-case letter above 9.
+fn digit(b: u8) -> Option<u64>
+    ensures { IfSome result (λ d. d < 16) }
+{
+    match b {
+        b'0'..=b'9' => Some((b - b'0') as u64),
+        b'A'..=b'F' => Some((b - b'A' + 10) as u64),
+        _ => None,
     }
 }
 
-fn store(into: &mut [i64], at: usize, x: i64) {
-    if at < into.len() {
-        into[at] = x;
+// The number that digits of a base say, if 64 bits hold it.
+fn number(digits: &[u8], base: u64) -> Option<u64> {
+    digits.iter().try_fold(0u64, |n, b| {
+        let d = digit(*b).filter(|d| *d < base)?;
+        n.checked_mul(base)?.checked_add(d)
+    })
+}
+
+// The number of just so many hexadecimal digits.
+pub fn hex(word: &[u8], count: usize) -> Option<u64>
+    ensures { IfSome result (λ n. length word.now ≡ count) }
+{
+    if word.len() == count {
+        number(word, 16)
+    } else {
+        None
     }
 }
 
-// How many blanks the line has from a place on: each is followed by a word.
-fn blanks_from(line: &[u8], at: usize) -> usize {
-    let mut n = 0;
-    let mut i = at;
-    while i < line.len() {
-        if line[i] == b' ' {
-            n = std::num::wrapping_add_usize(n, 1);
-        }
-        i += 1;
+// The number of decimal digits, one at least and at most so many.
+fn decimal(word: &[u8], most: usize) -> Option<u64>
+    ensures { IfSome result (λ n. (0 < length word.now) × (length word.now ≤ most)) }
+{
+    if word.is_empty() || most < word.len() {
+        None
+    } else {
+        number(word, 10)
     }
-    n
 }
 
-// The numbers from the blank at `at` to the line's end.
-pub fn read_all(line: &[u8], at: usize, into: &mut [i64]) -> Count {
-    let n = blanks_from(line, at);
-    let mut good = true;
-    let mut p = at;
-    let mut i = 0;
-    while i < n {
-        let w = whole_at(line, p);
-        store(into, i, w.value);
-        good = good & w.good;
-        p = w.end;
-        i += 1;
+// The number below 2^32 of at most 11 decimal digits.
+pub fn whole(word: &[u8]) -> Option<u32>
+    ensures { IfSome result (λ n. (0 < length word.now) × (length word.now ≤ 11)) }
+{
+    u32::try_from(decimal(word, 11)?).ok()
+}
+
+// The number from -2^63 to 2^63 - 1 of at most 19 decimal digits, behind a minus where it is negative.
+pub fn signed(word: &[u8]) -> Option<i64>
+    ensures { IfSome result (λ n. (0 < length word.now) × (length word.now ≤ 20)) }
+{
+    match word.strip_prefix(b"-") {
+        Some(size) => 0i64.checked_sub_unsigned(decimal(size, 19)?),
+        None => i64::try_from(decimal(word, 19)?).ok(),
     }
-    Count { good, n }
 }

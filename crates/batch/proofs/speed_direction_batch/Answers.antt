@@ -1,40 +1,30 @@
 -- `batch::speed_direction_batch` meets its contract.
-use mathlib.Core.Path.{ap₂}
-use Prim.Native.Nat.{◌-◌, ◌*◌}
-use native.Mathlib.Omega.{arith}
-use lib.Ieee.{Float, binary32, add}
-use lib.ListN.{length}
+use Rattle.std.proofs.Common.{◌≡◌, ◌-◌, ◌*◌, length, arith, zero-mul, ap₂}
+use Rattle.std.specs.Float.{binary32}
+use Rattle.std.specs.Float.Ieee.{Float, add}
 use Rattle.object.specs.declared.Detection.{Detection}
-use Rattle.matching.specs.Associate.{angle_term, det_at, step_at}
-use Rattle.matching.specs.Cells.{entry_at, overlap_cells}
+use Rattle.matching.specs.Associate.{angle_term}
+use Rattle.matching.specs.Cells.{overlap_cells}
+use Rattle.matching.specs.Lent.{det_of, step_of, matrix_of}
 use Rattle.matching.proofs.Loops.{row_ends}
-use Rattle.matching.proofs.Rows.{rows_none, rows_more, rows-done, part_at, centred}
-use borrow.Author.Rules.{rules}
+use Rattle.matching.proofs.Rows.{rows_more, part_at, centred}
 use Rattle.batch.proofs.speed_direction_batch.Goals as goal
 
 pub loop-i-init : goal.loop-i-init
-loop-i-init c = let s = c.before.before.before.before.before.before.before.before.before.before in (omega arith, rows_none (λ i j. add binary32 (entry_at s.args.nt s.args.iou.now i j) (angle_term s.args.inertia (det_at s.args.dets.now i) (step_at s.args.directions.now j) (det_at s.args.previous.now j))) _ _ _)
-
-pub combined_row-requires-clause-nt_bound : goal.combined_row-requires-clause-nt_bound
-combined_row-requires-clause-nt_bound c =
-    let s = c.before.before.before.before.before.before.before.before.before.before.before.before.before.before.before.before.before.before in
-    let l = c.loop-i in
-    let e = row_ends s.args.nd s.args.nt l.i c.loop-i-test.true in
-    (s.requires.1.1.1.1.0, (search rules, (search rules, (s.requires.1.0, (s.requires.1.1.0, (omega (arith, e, s.requires.1.1.1.1.1.0, c.combined_row-arg-1.given), omega (arith, e, s.requires.1.1.1.1.1.1, l.invariant.1.same, c.combined_row-arg-in-loop-i-1.given)))))))
+loop-i-init c = rw (zero-mul c.args.iou.tracks)
 
 pub combined_row-requires-clause-centred : goal.combined_row-requires-clause-centred
-combined_row-requires-clause-centred c = centred c.args.previous.now c.args.nt _ _ _ _ c.centres.ensures.x c.centres.ensures.y
+combined_row-requires-clause-centred c = centred c.args.tracks.previous.cells.now c.args.tracks.previous.n _ _ _ _ c.centres.ensures.x c.centres.ensures.y
 
 pub loop-i-preserved : goal.loop-i-preserved
 loop-i-preserved c =
-    let s = c.before.before.before.before.before.before.before.before.before.before.before.before.before.before.before.before.before.before.before.before in
-    let l = c.loop-i in
-    let e = row_ends s.args.nd s.args.nt l.i c.loop-i-test.true in
-    (omega arith, rows_more (λ i j. add binary32 (entry_at s.args.nt s.args.iou.now i j) (angle_term s.args.inertia (det_at s.args.dets.now i) (step_at s.args.directions.now j) (det_at s.args.previous.now j))) s.args.out.now s.args.nd s.args.nt l.i l.out _ (length l.out - l.i * s.args.nt) _ l.invariant.1 c.loop-i-test.true s.requires.1.1.1.1.1.1 (omega arith) c.combined_row.ensures (λ j h. ap₂ (λ (o : Float) (d : Detection). add binary32 o (angle_term s.args.inertia d (step_at s.args.directions.now j) (det_at s.args.previous.now j))) (part_at s.args.iou.now s.args.nt l.i j (length s.args.iou.now - l.i * s.args.nt) (omega (arith, h, e, s.requires.1.1.1.1.1.0))) c.detection_at-d.ensures))
-
-pub shape_of-out : goal.shape_of-out
-shape_of-out c = c.loop-i.invariant.1.same
+    let a = c.args in
+    let nt = a.iou.tracks in
+    let i = c.loop-i.i in
+    rows_more (λ i j. add binary32 (matrix_of a.iou i j) (angle_term a.inertia (det_of a.dets i) (step_of a.tracks j) (det_of a.tracks.previous j))) a.out.now c.loop-i.out _ nt i (length c.loop-i.out - i * nt) _ c.loop-i.invariant (omega arith)
+    (rw (← c.requires.tracks) at c.combined_row.ensures)
+    (λ j h. ap₂ (λ (o : Float) (d : Detection). add binary32 o (angle_term a.inertia d (step_of a.tracks j) (det_of a.tracks.previous j))) (part_at a.iou.cells.now nt i j (length a.iou.cells.now - i * nt) (omega (arith, row_ends a.iou.objects nt i c.loop-i-test.true, a.iou.fits))) c.get.ensures)
 
 pub returns : goal.returns
 unfolding overlap_cells
-returns c = let s = c.before.before.before.before.before.before.before.before.before.before.before.before in rows-done (λ i j. add binary32 (entry_at s.args.nt s.args.iou.now i j) (angle_term s.args.inertia (det_at s.args.dets.now i) (step_at s.args.directions.now j) (det_at s.args.previous.now j))) _ _ _ _ _ c.loop-i.invariant.1 c.loop-i-test.false
+returns c = let e : c.loop-i.i ≡ c.args.iou.objects = omega arith in rw e at c.loop-i.invariant

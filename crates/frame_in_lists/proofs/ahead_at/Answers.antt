@@ -7,7 +7,7 @@ use Rattle.frame_in_lists.proofs.ahead_at.Goals as goal
 pub returns-then-not-is_meant_at-sound : goal.returns-then-not-is_meant_at-sound
 returns-then-not-is_meant_at-sound c =
     let is = c.track_at-e.ensures in
-    ahead-unusable _ _ _ _ is _ (sym (test-is _ _ _ _ is _ _ _ (c.settings_in-s.ensures _) c.is_meant_at.ensures c.is_sound_at-sound.ensures) ∙ c.if-not-is_meant_at-sound.true)
+    ahead-unusable _ _ _ _ is (sym (test-is _ _ _ _ is _ _ _ (c.settings_in-s.ensures _) c.is_meant_at.ensures c.is_sound_at-sound.ensures) ∙ c.if-not-is_meant_at-sound.true)
 
 pub predict_one-p-requires : goal.predict_one-p-requires
 predict_one-p-requires c =
@@ -25,4 +25,4 @@ pub returns : goal.returns
 returns c =
     let is = c.track_at-e.ensures in
     let u = sym (test-is _ _ _ _ is _ _ _ (c.settings_in-s.ensures _) c.is_meant_at.ensures c.is_sound_at-sound.ensures) ∙ c.if-not-is_meant_at-sound.false in
-    ahead-usable _ _ _ _ is u _ _ c.predict_one-p.ensures c.is_unbroken.ensures
+    rw c.then_some.ensures (ahead-usable _ _ _ _ is u _ _ c.predict_one-p.ensures c.is_unbroken.ensures)

@@ -11,7 +11,7 @@ use Rattle.grants.proofs.grant.Goals as goal
 pub returns-then-is_free : goal.returns-then-is_free
 returns-then-is_free c =
     let s = c in
-    granted-free s.args.at s.args.m s.args.d s.args.grants (rw (to_z-of_z w64 s.args.m s.ranges.m) at (sym c.is_free.ensures ∙ c.if-is_free.true))
+    granted-free s.args.at.now s.args.m s.args.d s.args.grants.now (rw (to_z-of_z w64 s.args.m s.ranges.m) at (sym c.is_free.ensures ∙ c.if-is_free.true))
 
 pub index_of-requires : goal.index_of-requires
 index_of-requires c = sym c.is_free.ensures ∙ c.if-is_free.false
@@ -20,32 +20,32 @@ pub offset_bounds-at-index_of : goal.offset_bounds-at-index_of
 offset_bounds-at-index_of c =
     let s = c in
     let z = to_z-of_z w64 s.args.m s.ranges.m in
-    let h : c.index_of.result < 64 = rw (c.index_of.ensures, z) (named s.args.at 64 s.args.m s.requires (rw z at (sym c.is_free.ensures ∙ c.if-is_free.false))).0 in
+    let h : c.index_of.result < 64 = rw (c.index_of.ensures, z) (named s.args.at.now 64 s.args.m s.requires (rw z at (sym c.is_free.ensures ∙ c.if-is_free.false))).0 in
     search rules
 
 pub bounds-at-index_of : goal.bounds-at-index_of
 bounds-at-index_of c =
     let s = c in
     let z = to_z-of_z w64 s.args.m s.ranges.m in
-    let h : c.index_of.result < 64 = rw (c.index_of.ensures, z) (named s.args.at 64 s.args.m s.requires (rw z at (sym c.is_free.ensures ∙ c.if-is_free.false))).0 in
+    let h : c.index_of.result < 64 = rw (c.index_of.ensures, z) (named s.args.at.now 64 s.args.m s.requires (rw z at (sym c.is_free.ensures ∙ c.if-is_free.false))).0 in
     search rules
 
-pub offset_bounds-out-t : goal.offset_bounds-out-t
-offset_bounds-out-t c =
+pub offset_bounds-grants-t : goal.offset_bounds-grants-t
+offset_bounds-grants-t c =
     let s = c in
     let z = to_z-of_z w64 s.args.m s.ranges.m in
-    let h : get_or s.args.at c.index_of.result 0 < 64 = rw (c.index_of.ensures, z) (named s.args.at 64 s.args.m s.requires (rw z at (sym c.is_free.ensures ∙ c.if-is_free.false))).1 in
+    let h : get_or s.args.at.now c.index_of.result 0 < 64 = rw (c.index_of.ensures, z) (named s.args.at.now 64 s.args.m s.requires (rw z at (sym c.is_free.ensures ∙ c.if-is_free.false))).1 in
     search rules
 
-pub bounds-out-t : goal.bounds-out-t
-bounds-out-t c =
+pub bounds-grants-t : goal.bounds-grants-t
+bounds-grants-t c =
     let s = c in
     let z = to_z-of_z w64 s.args.m s.ranges.m in
-    let h : get_or s.args.at c.index_of.result 0 < 64 = rw (c.index_of.ensures, z) (named s.args.at 64 s.args.m s.requires (rw z at (sym c.is_free.ensures ∙ c.if-is_free.false))).1 in
+    let h : get_or s.args.at.now c.index_of.result 0 < 64 = rw (c.index_of.ensures, z) (named s.args.at.now 64 s.args.m s.requires (rw z at (sym c.is_free.ensures ∙ c.if-is_free.false))).1 in
     search rules
 
 pub returns : goal.returns
 returns c =
     let s = c in
     let z = to_z-of_z w64 s.args.m s.ranges.m in
-    rw (c.seen.ensures, c.index_of.ensures, z) (granted-named s.args.at s.args.m s.args.d s.args.grants (rw z at (sym c.is_free.ensures ∙ c.if-is_free.false)))
+    rw (c.index_of.ensures, z) (granted-named s.args.at.now s.args.m s.args.d s.args.grants.now (rw z at (sym c.is_free.ensures ∙ c.if-is_free.false)))

@@ -1,7 +1,6 @@
 -- `grants::seat` meets its contract.
 use mathlib.Core.Path.{◌≡◌}
 use mathlib.Core.List.{map}
-use Prim.Native.Nat.{◌-◌, ◌≤◌}
 use lib.ListN.{take}
 use Rattle.lists.specs.Lists.{tab}
 use Rattle.matching.specs.Associate.{det_at}
@@ -10,7 +9,4 @@ use Rattle.grants.specs.Grants.{seated}
 use Rattle.grants.proofs.seat.Given as goal
 
 abbrev pub invariant-loop-i : goal.invariant-loop-i
-invariant-loop-i l = (l.i ≤ l.n) × (l.out ≡ seated (take l.i (map (place_of l.at) l.marks)) (tab (det_at l.cells) l.i) l.initial.out)
-
-abbrev pub decreases-loop-i : goal.decreases-loop-i
-decreases-loop-i l = l.n - l.i
+invariant-loop-i l = l.out ≡ seated (take l.i (map (place_of l.places.at) l.marks)) (tab (det_at l.dets.cells) l.i) l.initial.out

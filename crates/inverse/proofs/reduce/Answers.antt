@@ -1,20 +1,14 @@
 -- `inverse::reduce` meets its contract.
 use borrow.Author.Rules.{rules}
-use mathlib.Core.Path.{◌≡◌, refl, ap, ◌∙◌}
-use lib.ListN.{length}
-use Rattle.lists.specs.Lists.{tab}
-use Rattle.lists.proofs.Fill.{filled_none, filled_more, filled-all}
+use Prim.Native.Nat.{ℕ}
+use lib.Ieee.{nan, sub, mul, binary32}
+use lib.ListN.{get_or}
+use Rattle.lists.proofs.Each.{tab-made}
 use Rattle.inverse.specs.Inverse.{reduced}
 use Rattle.inverse.proofs.reduce.Goals as goal
-
-pub loop-j-init : goal.loop-j-init
-loop-j-init c = filled_none _ _
-
-pub loop-j-preserved : goal.loop-j-preserved
-loop-j-preserved c = filled_more _ _ _ _ _ c.loop-j.invariant (search rules) refl
 
 pub returns : goal.returns
 unfolding reduced
 returns c =
-    let e : length c.args.a ≡ 8 = search rules in
-    filled-all _ _ _ _ c.loop-j.invariant (search rules) ∙ ap (tab _) e
+    let a = c.args in
+    tab-made _ _ (λ (j : ℕ). sub binary32 (get_or a.a j nan) (mul binary32 (get_or a.t j nan) (get_or a.a a.c nan))) (λ i y q h. search rules) nan _ _ c.from_fn.ensures.items

@@ -7,4 +7,4 @@ use Rattle.kalman_filter.proofs.gain.Goals as goal
 
 pub returns : goal.returns
 unfolding h_matrix r_matrix transpose
-returns c = rw (c.product4-3.ensures, c.inverse_or_identity-inverse.ensures, c.sum.ensures, c.product4-2.ensures, c.product4.ensures) (sym (gain-is c.args.f))
+returns c = rw (c.product-3.ensures, c.inverse_or_identity-inverse.ensures, c.sum.ensures, c.product-2.ensures, c.product.ensures) (sym (gain-is c.args.f))

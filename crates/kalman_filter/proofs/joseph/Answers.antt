@@ -7,4 +7,4 @@ use Rattle.kalman_filter.proofs.joseph.Goals as goal
 
 pub returns : goal.returns
 unfolding h_matrix identity
-returns c = rw (c.sum.ensures, c.noise-krk.ensures, c.product7-3.ensures, c.transpose.ensures, c.product7-2.ensures, c.difference.ensures, c.product7.ensures) (sym (joseph-is c.args.k c.args.p))
+returns c = rw (c.sum.ensures, c.noise-krk.ensures, c.product-3.ensures, c.transpose.ensures, c.product-2.ensures, c.difference.ensures, c.product.ensures) (sym (joseph-is c.args.k c.args.p))

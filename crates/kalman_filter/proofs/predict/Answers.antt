@@ -7,4 +7,4 @@ use Rattle.kalman_filter.proofs.predict.Goals as goal
 
 pub returns : goal.returns
 unfolding f_matrix q_matrix transpose
-returns c = rw (c.sum.ensures, c.product7-2.ensures, c.product7.ensures, c.product1.ensures) (sym (predict-is c.args.f))
+returns c = rw (c.sum.ensures, c.product-3.ensures, c.product-2.ensures, c.product.ensures) (sym (predict-is c.args.f))

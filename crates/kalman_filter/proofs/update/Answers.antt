@@ -6,4 +6,4 @@ use Rattle.kalman_filter.proofs.update.Goals as goal
 
 pub returns : goal.returns
 unfolding h_matrix
-returns c = rw (c.joseph-p1.ensures, c.sum.ensures, c.product1-2.ensures, c.gain-k.ensures, c.difference.ensures, c.product1.ensures) (sym (update-is c.args.z c.args.f))
+returns c = rw (c.joseph-p.ensures, c.sum.ensures, c.product-2.ensures, c.gain-k.ensures, c.difference.ensures, c.product.ensures) (sym (update-is c.args.z c.args.f))

@@ -1,16 +1,11 @@
 -- `lapjv_ca::ca_dense` meets its contract.
 use mathlib.Core.Path.{◌≡◌}
-use Prim.Native.Nat.{◌-◌, ◌≤◌}
-use lib.ListN.{length}
 use Rattle.lapjv_walk.specs.Lapjv.{ca_dense}
-use Rattle.lapjv_walk.specs.Ops.{floats}
 use Rattle.lapjv_walk.specs.Reads.{ca_reads}
+use Rattle.costs.specs.OpsOn.{ops}
 use Rattle.lapjv_ca.proofs.ca_dense.Given as goal
 
 abbrev pub invariant-loop-r : goal.invariant-loop-r
-invariant-loop-r l =
-    (l.r ≤ l.count) × (length l.pred ≡ l.n) × (length l.v ≡ l.n) × (record { x = l.x; y = l.y; v = l.v } ≡ ca_dense floats l.n l.cost l.r (record { rows = l.rows; count = l.count; x = l.initial.x; y = l.initial.y; v = l.initial.v }))
-    × (l.reads ≡ ca_reads floats l.n l.cost l.r (record { rows = l.rows; count = l.count; x = l.initial.x; y = l.initial.y; v = l.initial.v }))
-
-abbrev pub decreases-loop-r : goal.decreases-loop-r
-decreases-loop-r l = l.count - l.r
+invariant-loop-r g l =
+    (record { x = l.x; y = l.y; v = l.v } ≡ ca_dense (ops g.C.Cost.on) l.n l.cost l.r (record { rows = l.rows; count = l.count; x = l.initial.x; y = l.initial.y; v = l.initial.v }))
+    × (l.reads ≡ ca_reads (ops g.C.Cost.on) l.n l.cost l.r (record { rows = l.rows; count = l.count; x = l.initial.x; y = l.initial.y; v = l.initial.v }))

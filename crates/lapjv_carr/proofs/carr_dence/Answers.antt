@@ -1,93 +1,38 @@
 -- `lapjv_carr::carr_dence` meets its contract.
-use mathlib.Core.Path.{refl, sym, ◌∙◌}
-use lib.Ieee.{Float}
+use mathlib.Core.Path.{refl, subst}
 use native.Mathlib.Omega.{arith}
 use Rattle.lapjv_walk.specs.Carr.{Carr, carr_dence}
 use Rattle.lapjv_walk.specs.Ccrt.{Kept}
-use Rattle.lapjv_walk.specs.Ops.{floats}
 use Rattle.lapjv_walk.specs.Reads.{carr_reads}
-use Rattle.lapjv_carr.proofs.Pass.{going_done, going-first, going-marked, going_on, going-row, going-small, going-turn, reads-small}
+use Rattle.costs.specs.OpsOn.{ops}
+use Rattle.lapjv_carr.proofs.Pass.{going_done, going-first, going_on}
 use Rattle.lapjv_carr.proofs.carr_dence.Goals as goal
 
 pub loop-current-init : goal.loop-current-init
-loop-current-init c = let a = c.args in let p = c.requires in going-first floats a.n a.cost.now (record { rows = a.rows.now; count = a.count; x = a.x.now; y = a.y.now; v = a.v.now }) p.0.some p.1
-
-pub overflow_add-turn : goal.overflow_add-turn
-overflow_add-turn c =
-    let a = c.args in
-    let p = c.requires in
-    let l = c.loop-current in
-    let k : Kept Float = record { rows = a.rows.now; count = a.count; x = a.x.now; y = a.y.now; v = a.v.now } in
-    let s : Carr Float = record { rows = l.rows; current = l.current; fresh = l.fresh; turn = l.turn; x = l.x; y = l.y; v = l.v } in
-    omega (arith, going-small floats a.n a.cost.now k p.0.some s l.invariant c.loop-current-test.true p.0.most)
-
-pub carr_turn-t-requires : goal.carr_turn-t-requires
-carr_turn-t-requires c =
-    let arg = c.args in
-    let pre = c.requires in
-    let a = arg in
-    let p = pre in
-    let l = c.loop-current in
-    let k : Kept Float = record { rows = a.rows.now; count = a.count; x = a.x.now; y = a.y.now; v = a.v.now } in
-    let s : Carr Float = record { rows = l.rows; current = l.current; fresh = l.fresh; turn = l.turn; x = l.x; y = l.y; v = l.v } in
-    let h = c.loop-current-test.true in
-    let o = l.invariant.ok in
-    let cn = o.count_n in
-    let fc = o.fresh-cur in
-    (p.0, omega arith, omega arith, going-row floats a.n a.cost.now k p.0.some s l.invariant h, o.len_rows, o.queue.pairs.len_x, going-marked floats a.n a.cost.now k p.0.some s l.invariant h, o.len_v)
-
-pub loop-current-smaller : goal.loop-current-smaller
-loop-current-smaller c =
-    let arg = c.args in
-    let pre = c.requires in
-    let cur = c.loop-current in
-    let a = arg in
-    let p = pre in
-    let l = cur in
-    let k : Kept Float = record { rows = a.rows.now; count = a.count; x = a.x.now; y = a.y.now; v = a.v.now } in
-    let s : Carr Float = record { rows = l.rows; current = l.current; fresh = l.fresh; turn = l.turn; x = l.x; y = l.y; v = l.v } in
-    omega (arith, going-turn floats a.n a.cost.now k p.0.some s l.invariant c.loop-current-test.true)
+loop-current-init g c = let a = c.args in let p = c.requires in (going-first (ops g.C.Cost.on) a.n a.cost.now (record { rows = a.rows.now; count = a.count; x = a.x.now; y = a.y.now; v = a.v.now }) p.0.some p.1, p.3)
 
 pub loop-current-preserved : goal.loop-current-preserved
-loop-current-preserved c =
-    let arg = c.args in
-    let pre = c.requires in
-    let cur = c.loop-current in
-    let a = arg in
-    let p = pre in
-    let l = cur in
-    let k : Kept Float = record { rows = a.rows.now; count = a.count; x = a.x.now; y = a.y.now; v = a.v.now } in
-    let s : Carr Float = record { rows = l.rows; current = l.current; fresh = l.fresh; turn = l.turn; x = l.x; y = l.y; v = l.v } in
-    going_on floats a.n a.cost.now k p.0.some s l.invariant c.loop-current-test.true _ (c.carr_turn-t.ensures l.turn refl) refl
-
-pub overflow_mul-reads : goal.overflow_mul-reads
-overflow_mul-reads c =
+loop-current-preserved g c =
     let a = c.args in
     let p = c.requires in
     let l = c.loop-current in
-    let k : Kept Float = record { rows = a.rows.now; count = a.count; x = a.x.now; y = a.y.now; v = a.v.now } in
-    let s : Carr Float = record { rows = l.rows; current = l.current; fresh = l.fresh; turn = l.turn; x = l.x; y = l.y; v = l.v } in
-    omega (arith, reads-small floats a.n a.cost.now k p.0.some s l.invariant p.0.most)
-
-pub shape_of-rows : goal.shape_of-rows
-shape_of-rows c = c.loop-current.invariant.ok.len_rows ∙ sym c.requires.1.len_rows
-
-pub shape_of-x : goal.shape_of-x
-shape_of-x c = c.loop-current.invariant.ok.queue.pairs.len_x ∙ sym c.requires.1.queue.pairs.len_x
-
-pub shape_of-y : goal.shape_of-y
-shape_of-y c = c.loop-current.invariant.ok.queue.pairs.len_y ∙ sym c.requires.1.queue.pairs.len_y
-
-pub shape_of-v : goal.shape_of-v
-shape_of-v c = c.loop-current.invariant.ok.len_v ∙ sym c.requires.1.len_v
+    let O = ops g.C.Cost.on in
+    let k : Kept O.C = record { rows = a.rows.now; count = a.count; x = a.x.now; y = a.y.now; v = a.v.now } in
+    let s : Carr O.C = record { rows = l.rows; current = l.current; fresh = l.fresh; turn = l.turn; x = l.x; y = l.y; v = l.v } in
+    let h = c.loop-current-test.true in
+    let e = c.carr_turn-t.ensures l.turn refl in (
+      going_on O a.n a.cost.now k p.0.some s l.invariant.0 h _ e refl,
+      subst (λ (z : Carr O.C). g.C.Cost.Good a.n a.cost.now z.y z.v) e (g.C.Cost.laws.turn_good a.n a.cost.now p.2 p.0.some a.count s h l.invariant.0.ok l.invariant.1),
+    )
 
 pub returns : goal.returns
 unfolding carr_dence carr_reads
-returns c =
+returns g c =
     let a = c.args in
     let p = c.requires in
     let l = c.loop-current in
-    let k : Kept Float = record { rows = a.rows.now; count = a.count; x = a.x.now; y = a.y.now; v = a.v.now } in
-    let s : Carr Float = record { rows = l.rows; current = l.current; fresh = l.fresh; turn = l.turn; x = l.x; y = l.y; v = l.v } in
-    let e = going_done floats a.n a.cost.now k p.0.some s l.invariant (omega arith) in
+    let O = ops g.C.Cost.on in
+    let k : Kept O.C = record { rows = a.rows.now; count = a.count; x = a.x.now; y = a.y.now; v = a.v.now } in
+    let s : Carr O.C = record { rows = l.rows; current = l.current; fresh = l.fresh; turn = l.turn; x = l.x; y = l.y; v = l.v } in
+    let e = going_done O a.n a.cost.now k p.0.some s l.invariant.0 (omega arith) in
     (rw e, rw e)

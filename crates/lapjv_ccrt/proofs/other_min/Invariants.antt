@@ -1,13 +1,9 @@
 -- `lapjv_ccrt::other_min` meets its contract.
 use mathlib.Core.Path.{◌≡◌}
-use Prim.Native.Nat.{◌-◌, ◌≤◌}
 use Rattle.lapjv_walk.specs.Ccrt.{other_step}
 use Rattle.lapjv_walk.specs.Loops.{walk}
-use Rattle.lapjv_walk.specs.Ops.{floats}
+use Rattle.costs.specs.OpsOn.{ops}
 use Rattle.lapjv_ccrt.proofs.other_min.Given as goal
 
 abbrev pub invariant-loop-k : goal.invariant-loop-k
-invariant-loop-k l = (l.k ≤ l.n) × (l.min ≡ walk (other_step floats l.n l.cost l.i l.j l.v) 0 l.k floats.large)
-
-abbrev pub decreases-loop-k : goal.decreases-loop-k
-decreases-loop-k l = l.n - l.k
+invariant-loop-k g l = l.min ≡ walk (other_step (ops g.C.Cost.on) l.n l.cost l.i l.j l.v) 0 l.k g.C.Cost.on.large

@@ -1,14 +1,9 @@
 -- `lapjv_ccrt::reduce_columns` meets its contract.
 use mathlib.Core.Path.{◌≡◌}
-use Prim.Native.Nat.{◌-◌, ◌≤◌}
-use lib.ListN.{length}
 use Rattle.lapjv_walk.specs.Ccrt.{reduce_row}
 use Rattle.lapjv_walk.specs.Loops.{walk}
-use Rattle.lapjv_walk.specs.Ops.{floats}
+use Rattle.costs.specs.OpsOn.{ops}
 use Rattle.lapjv_ccrt.proofs.reduce_columns.Given as goal
 
 abbrev pub invariant-loop-i : goal.invariant-loop-i
-invariant-loop-i l = (l.i ≤ l.n) × (length l.v ≡ l.n) × (length l.y ≡ l.n) × (record { v = l.v; y = l.y } ≡ walk (reduce_row floats l.n l.cost) 0 l.i (record { v = l.initial.v; y = l.initial.y }))
-
-abbrev pub decreases-loop-i : goal.decreases-loop-i
-decreases-loop-i l = l.n - l.i
+invariant-loop-i g l = record { v = l.v; y = l.y } ≡ walk (reduce_row (ops g.C.Cost.on) l.n l.cost) 0 l.i (record { v = l.initial.v; y = l.initial.y })

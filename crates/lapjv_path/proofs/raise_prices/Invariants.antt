@@ -1,14 +1,9 @@
 -- `lapjv_path::raise_prices` meets its contract.
 use mathlib.Core.Path.{◌≡◌}
-use Prim.Native.Nat.{◌-◌, ◌≤◌}
-use lib.ListN.{length}
 use Rattle.lapjv_walk.specs.Loops.{walk}
-use Rattle.lapjv_walk.specs.Ops.{floats}
 use Rattle.lapjv_walk.specs.Path.{raise_step}
+use Rattle.costs.specs.OpsOn.{ops}
 use Rattle.lapjv_path.proofs.raise_prices.Given as goal
 
 abbrev pub invariant-loop-k : goal.invariant-loop-k
-invariant-loop-k l = (l.k ≤ l.lo) × (length l.v ≡ l.n) × (l.v ≡ walk (raise_step floats l.mind l.d l.cols) 0 l.k l.initial.v)
-
-abbrev pub decreases-loop-k : goal.decreases-loop-k
-decreases-loop-k l = l.lo - l.k
+invariant-loop-k g l = l.v ≡ walk (raise_step (ops g.C.Cost.on) l.mind l.d l.cols) 0 l.k l.initial.v

@@ -1,66 +1,29 @@
 -- `lapjv_path::search_from` meets its contract.
 use mathlib.Core.Path.{refl, sym, ◌∙◌, ◌≡◌}
-use Prim.Native.Nat.{◌<◌, ℕ}
-use lib.Ieee.{nan}
-use lib.ListN.{length}
+use Prim.Native.Nat.{◌<◌}
 use native.Mathlib.Omega.{arith}
 use Rattle.lists.proofs.Tab.{tab-done, tab-fill}
 use Rattle.lapjv_walk.specs.Path.{search_from}
-use Rattle.lapjv_walk.proofs.Fill.{filled-long}
 use Rattle.lapjv_walk.proofs.Search.{scan≡}
 use Rattle.lapjv_path.proofs.search_from.Goals as goal
-use Rattle.lapjv_path.proofs.search_from.Goals.{At-loop-j}
-
--- the three lists keep their length
-lengths : (c : At-loop-j) →
-    let arg = c.args in
-    (length c.loop-j.d ≡ arg.n) × (length c.loop-j.cols ≡ arg.n) × (length c.loop-j.pred ≡ arg.n)
-lengths c =
-    let p = c.requires in
-    let i = c.loop-j.invariant in
-    (filled-long _ _ _ _ _ i.1 p.3 i.0, filled-long _ _ _ _ _ i.2 p.4 i.0, filled-long _ _ _ _ _ i.3 p.5 i.0)
-
-pub bounds-cols-j : goal.bounds-cols-j
-bounds-cols-j c = omega (arith, lengths (goal.at.bounds-cols-j c).At-loop-j)
-
-pub bounds-pred-j : goal.bounds-pred-j
-bounds-pred-j c = omega (arith, lengths (goal.at.bounds-pred-j c).At-loop-j)
-
-pub bounds-d-j : goal.bounds-d-j
-bounds-d-j c = omega (arith, lengths (goal.at.bounds-d-j c).At-loop-j)
 
 pub loop-j-preserved : goal.loop-j-preserved
-loop-j-preserved c =
-    let l = c in
-    let p = l.requires in
-    let i = l.loop-j.invariant in
-    let j : ℕ = l.loop-j.j in
-    let h : j < l.args.n = c.loop-j-test.true in (
-      omega arith,
-      tab-fill _ nan _ _ j _ i.1 (rw c.cost_at.ensures) (omega arith),
-      tab-fill _ 0 _ _ j _ i.2 refl (omega arith),
-      tab-fill _ 0 _ _ j _ i.3 refl (omega arith),
-    )
-
-pub shape_of-d : goal.shape_of-d
-shape_of-d c = (lengths (goal.at.shape_of-d c).At-loop-j).0 ∙ sym c.requires.3
-
-pub shape_of-cols : goal.shape_of-cols
-shape_of-cols c = (lengths (goal.at.shape_of-cols c).At-loop-j).1 ∙ sym c.requires.4
-
-pub shape_of-pred : goal.shape_of-pred
-shape_of-pred c = (lengths (goal.at.shape_of-pred c).At-loop-j).2 ∙ sym c.requires.5
+loop-j-preserved g c =
+    let p = c.requires in
+    let l = c.loop-j in
+    let i = l.invariant in
+    let h : l.j < c.args.n = c.loop-j-test.true in
+    (tab-fill _ g.C.Cost.on.none _ _ l.j _ i.0 c.reduced_cost.ensures (omega (arith, p.3)), tab-fill _ 0 _ _ l.j _ i.1 refl (omega (arith, p.4)), tab-fill _ 0 _ _ l.j _ i.2 refl (omega (arith, p.5)))
 
 pub returns : goal.returns
 unfolding search_from
-returns c =
-    let l = c in
-    let a = l.args in
-    let p = l.requires in
-    let i = l.loop-j.invariant in
-    let e : l.loop-j.j ≡ a.n = omega arith in
+returns g c =
+    let a = c.args in
+    let p = c.requires in
+    let i = c.loop-j.invariant in
+    let e : c.loop-j.j ≡ a.n = omega arith in
     scan≡ refl refl
-    (sym (rw e at i.1 ∙ tab-done _ a.d.now a.n (omega (arith, p.3))))
-    (sym (rw e at i.2 ∙ tab-done _ a.cols.now a.n (omega (arith, p.4))))
-    (sym (rw e at i.3 ∙ tab-done _ a.pred.now a.n (omega (arith, p.5))))
+    (sym (rw e at i.0 ∙ tab-done _ a.d.now a.n (omega (arith, p.3))))
+    (sym (rw e at i.1 ∙ tab-done _ a.cols.now a.n (omega (arith, p.4))))
+    (sym (rw e at i.2 ∙ tab-done _ a.pred.now a.n (omega (arith, p.5))))
     refl

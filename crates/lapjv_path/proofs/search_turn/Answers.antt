@@ -1,49 +1,40 @@
 -- `lapjv_path::search_turn` meets its contract.
 use mathlib.Core.Path.{refl, sym, ◌∙◌}
-use mir.Syntax.{w64}
-use mir.ValLaws.{to_z-of_z}
-use Rattle.lapjv_walk.specs.Ops.{floats}
-use Rattle.lapjv_walk.proofs.Search.{scan≡}
+use lib.IntN.{ℤ, pos}
+use Rattle.lapjv_walk.specs.Marks.{free}
+use Rattle.costs.specs.OpsOn.{ops}
 use Rattle.lapjv_path.proofs.Turn.{finds-reads, found-columns, scans-reads, turn-finds, turn-scans}
 use Rattle.lapjv_path.proofs.search_turn.Goals as goal
 
-pub last_free-found-requires : goal.last_free-found-requires
-last_free-found-requires c =
-    let s = c in
-    let a = s.args in
-    let p = s.requires in
+pub last_free-requires : goal.last_free-requires
+last_free-requires g c =
+    let a = c.args in
+    let p = c.requires in
     let f = c.find_dense-hi in
-    let q = found-columns floats a.n a.cost.now a.y.now a.lo a.d.now a.cols.now a.pred.now p.4 p.3 f.result _ f.ensures.0 f.ensures.1 in
+    let q = found-columns (ops g.C.Cost.on) a.n a.cost.now a.y.now a.lo a.d.now a.cols.now a.pred.now p.4 p.3 f.result _ f.ensures.0 f.ensures.1 in
     (p.0.most, q.0, q.1, q.2, p.1.len)
 
 pub scan_dense-requires : goal.scan_dense-requires
-scan_dense-requires c =
-    let s = c in
-    let a = s.args in
-    let p = s.requires in
+scan_dense-requires g c =
+    let a = c.args in
+    let p = c.requires in
     let f = c.find_dense-hi in
-    let l = c.last_free-found in
-    let e = rw (to_z-of_z w64 l.result (record { sfits = l.type_inv })) at c.is_free.ensures in
-    (p.0, p.1, p.2, (turn-scans floats a.n a.cost.now a.y.now a.lo a.d.now a.cols.now a.pred.now p.4 p.3 f.result _ f.ensures.0 f.ensures.1 l.result l.ensures 0 a.v.now p.1 (sym e ∙ c.if-is_free.true)).0)
+    (p.0, p.1, p.2, (turn-scans (ops g.C.Cost.on) a.n a.cost.now a.y.now a.lo a.d.now a.cols.now a.pred.now p.4 p.3 f.result _ f.ensures.0 f.ensures.1 free c.in-None.ensures 0 a.v.now p.1 refl).0, p.5, p.6, p.7)
 
-pub returns-then-is_free : goal.returns-then-is_free
-returns-then-is_free c =
-    let s = c in
-    let a = s.args in
-    let p = s.requires in
+pub returns-in-Some : goal.returns-in-Some
+returns-in-Some g c =
+    let a = c.args in
+    let p = c.requires in
     let f = c.find_dense-hi in
-    let l = c.last_free-found in
-    let e = rw (to_z-of_z w64 l.result (record { sfits = l.type_inv })) at c.is_free.ensures in
-    let none = sym e ∙ c.if-is_free.true in
-    λ h. ((turn-scans floats a.n a.cost.now a.y.now a.lo a.d.now a.cols.now a.pred.now p.4 p.3 f.result _ f.ensures.0 f.ensures.1 l.result l.ensures h a.v.now p.1 none).1 ∙ c.scan_dense.ensures.0, c.scan_dense.ensures.1 ∙ sym (scans-reads floats a.n a.cost.now a.y.now a.lo a.d.now a.cols.now a.pred.now p.4 p.3 f.result _ f.ensures.0 f.ensures.1 l.result l.ensures h a.v.now p.1 none))
+    let O = ops g.C.Cost.on in
+    let z : ℤ = pos c.in-Some.j in
+    λ h. (turn-finds O a.n a.cost.now a.y.now a.lo a.d.now a.cols.now a.pred.now p.4 p.3 f.result _ f.ensures.0 f.ensures.1 z c.in-Some.ensures h a.v.now refl, sym (finds-reads O a.n a.cost.now a.y.now a.lo a.d.now a.cols.now a.pred.now p.4 p.3 f.result _ f.ensures.0 f.ensures.1 z c.in-Some.ensures h a.v.now refl))
 
-pub returns : goal.returns
-returns c =
-    let s = c in
-    let a = s.args in
-    let p = s.requires in
+pub returns-in-None : goal.returns-in-None
+returns-in-None g c =
+    let a = c.args in
+    let p = c.requires in
     let f = c.find_dense-hi in
-    let l = c.last_free-found in
-    let e = rw (to_z-of_z w64 l.result (record { sfits = l.type_inv })) at c.is_free.ensures in
-    let found = sym e ∙ c.if-is_free.false in
-    λ h. (turn-finds floats a.n a.cost.now a.y.now a.lo a.d.now a.cols.now a.pred.now p.4 p.3 f.result _ f.ensures.0 f.ensures.1 l.result l.ensures h a.v.now found ∙ scan≡ refl refl refl refl refl (sym (to_z-of_z w64 l.result (record { sfits = l.type_inv }))), sym (finds-reads floats a.n a.cost.now a.y.now a.lo a.d.now a.cols.now a.pred.now p.4 p.3 f.result _ f.ensures.0 f.ensures.1 l.result l.ensures h a.v.now found))
+    let O = ops g.C.Cost.on in
+    let e = c.in-None.ensures in
+    λ h. ((turn-scans O a.n a.cost.now a.y.now a.lo a.d.now a.cols.now a.pred.now p.4 p.3 f.result _ f.ensures.0 f.ensures.1 free e h a.v.now p.1 refl).1 ∙ c.scan_dense.ensures.0, c.scan_dense.ensures.1 ∙ sym (scans-reads O a.n a.cost.now a.y.now a.lo a.d.now a.cols.now a.pred.now p.4 p.3 f.result _ f.ensures.0 f.ensures.1 free e h a.v.now p.1 refl))

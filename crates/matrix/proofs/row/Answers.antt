@@ -1,70 +1,43 @@
 -- `matrix::row` meets its contract.
 use borrow.Author.Rules.{rules}
-use Prim.Native.Nat.{ℕ, ◌+◌, ◌*◌, ◌<◌, ◌≤◌}
+use Prim.Native.Nat.{◌<◌}
 use native.Mathlib.Omega.{arith}
-use mathlib.Core.Path.{◌≡◌, ap, sym, ◌∙◌}
-use lib.ListN.{length}
-use lib.Seq.{length-take-le}
-use Rattle.lists.specs.Lists.{tab}
-use Rattle.lists.proofs.Tab.{length-tab}
+use mathlib.Core.Path.{◌≡◌, ap, ◌∙◌}
+use lib.ListN.{length, length-replicate}
+use lib.Ieee.{nan}
+use Rattle.lists.proofs.Each.{tab-each}
 use Rattle.matrix.specs.Matrix.{entry_of}
-use Rattle.matrix.proofs.Rows.{row_inside, part_length, gathered, gathered-one, gathered-more}
+use Rattle.matrix.proofs.Rows.{gathered, first-term, more-terms}
 use Rattle.matrix.proofs.row.Goals as goal
-use Rattle.matrix.proofs.row.Goals.{Start}
-
--- row l of b is there
-row-of-b : (s : Start) (l : ℕ) → l < s.args.k → l * length s.args.acc.now + length s.args.acc.now ≤ length s.args.b.now
-row-of-b s l h = omega (arith, row_inside s.args.k (length s.args.acc.now) l h, s.requires.1.1)
-
-first-row : (s : Start) → length s.args.acc.now ≤ length s.args.b.now
-first-row s = omega (arith, row-of-b s 0 s.requires.0)
-
-pub slice_bounds-row_first-end : goal.slice_bounds-row_first-end
-slice_bounds-row_first-end c = sym (length-take-le _ _ (first-row c.before.before.before.before.before))
-
-pub row_first-requires : goal.row_first-requires
-row_first-requires c = length-take-le _ _ (first-row c.before.before.before.before.before.before)
 
 pub loop-l-init : goal.loop-l-init
-loop-l-init c =
-    let s = c.before.before.before.before.before.before.before.before.before in
-    let e = c.row_first.ensures ∙ gathered-one s.args.k (length s.args.acc.now) s.args.a.now s.args.b.now s.args.i in
-    (search rules, (s.requires.0, (ap length e ∙ length-tab _ _, e)))
-
-pub overflow_mul-lo : goal.overflow_mul-lo
-overflow_mul-lo c = omega (arith, row-of-b c.before.before.before.before.before.before.before.before.before.before.before c.loop-l.l c.loop-l-test.true)
-
-pub overflow_add-hi : goal.overflow_add-hi
-overflow_add-hi c = omega (arith, row-of-b c.before.before.before.before.before.before.before.before.before.before.before c.loop-l.l c.loop-l-test.true)
-
-pub offset_bounds-b-lo : goal.offset_bounds-b-lo
-offset_bounds-b-lo c = omega (arith, row-of-b c.before.before.before.before.before.before.before.before.before.before.before.before c.loop-l.l c.loop-l-test.true)
-
-pub slice_bounds-row_more-end : goal.slice_bounds-row_more-end
-slice_bounds-row_more-end c = row-of-b c.before.before.before.before.before.before.before.before.before.before.before.before c.loop-l.l c.loop-l-test.true
-
-pub row_more-requires : goal.row_more-requires
-row_more-requires c =
-    let s = c.before.before.before.before.before.before.before.before.before.before.before.before.before.before in
-    let l = c.loop-l in
-    part_length s.args.b.now l.l (length s.args.acc.now) (row-of-b s l.l c.loop-l-test.true) ∙ sym l.invariant.1.1.0
+loop-l-init g c =
+    let a = c.args in
+    record {
+      some = omega arith;
+      so_far = tab-each nan _ _ g.row.M (search rules) (λ j h.
+          let e = c.set_each.ensures j (rw length-replicate h) in
+          let t = first-term a.k g.row.M a.a.now a.b.now a.i j in
+          search rules);
+    }
 
 pub loop-l-preserved : goal.loop-l-preserved
-loop-l-preserved c =
-    let s = c.before.before.before.before.before.before.before.before.before.before.before.before.before.before.before.before.before in
+loop-l-preserved g c =
+    let a = c.args in
     let l = c.loop-l in
-    let m = length s.args.acc.now in
-    let e =
-    (c.row_more.ensures ∙ ap (tab _) l.invariant.1.1.0)
-    ∙ gathered-more s.args.k m s.args.a.now s.args.b.now s.args.i l.acc l.l l.invariant.0 l.invariant.1.1.1 in
-    (search rules, (search rules, (ap length e ∙ length-tab _ _, e)))
-
-pub shape_of-acc : goal.shape_of-acc
-shape_of-acc c = c.loop-l.invariant.1.1.0
+    let m = g.row.M in
+    record {
+      some = omega arith;
+      so_far = tab-each nan _ _ m (search rules) (λ j h.
+          let within : j < length l.row = omega arith in
+          let e = c.set_each-in-loop-l.ensures j within in
+          let t = more-terms a.k m a.a.now a.b.now a.i l.row l.l j l.invariant.some l.invariant.so_far h in
+          search rules);
+    }
 
 pub returns : goal.returns
 unfolding entry_of
-returns c =
-    let s = c.before.before.before.before.before.before.before.before.before.before.before in
-    let e : c.loop-l.l ≡ s.args.k = omega arith in
-    c.loop-l.invariant.1.1.1 ∙ ap (gathered s.args.k (length s.args.acc.now) s.args.a.now s.args.b.now s.args.i) e
+returns g c =
+    let a = c.args in
+    let e : c.loop-l.l ≡ a.k = omega arith in
+    c.loop-l.invariant.so_far ∙ ap (gathered a.k g.row.M a.a.now a.b.now a.i) e

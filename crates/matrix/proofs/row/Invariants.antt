@@ -1,12 +1,11 @@
--- `matrix::row` meets its contract.
-use Prim.Native.Nat.{◌-◌, ◌<◌, ◌≤◌}
+-- `matrix::row` meets its contract. The invariant: row has the first l terms of each entry.
+use Prim.Native.Nat.{◌<◌}
 use mathlib.Core.Path.{◌≡◌}
-use lib.ListN.{length}
 use Rattle.matrix.proofs.Rows.{gathered}
 use Rattle.matrix.proofs.row.Given as goal
 
 abbrev pub invariant-loop-l : goal.invariant-loop-l
-invariant-loop-l l = (0 < l.l) × ((l.l ≤ l.k) × ((length l.acc ≡ l.m) × (l.acc ≡ gathered l.k l.m l.a l.b l.i l.l)))
-
-abbrev pub decreases-loop-l : goal.decreases-loop-l
-decreases-loop-l l = l.k - l.l
+invariant-loop-l g l = record {
+  some : 0 < l.l;
+  so_far : l.row ≡ gathered l.k g.row.M l.a l.b l.i l.l;
+}

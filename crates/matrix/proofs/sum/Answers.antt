@@ -1,19 +1,10 @@
 -- `matrix::sum` meets its contract.
 use borrow.Author.Rules.{rules}
-use mathlib.Core.Path.{refl}
-use Rattle.lists.proofs.Fill.{filled_none, filled_more, filled-all}
+use lib.Ieee.{nan}
+use Rattle.lists.proofs.Each.{tab-each}
 use Rattle.matrix.specs.Matrix.{sum}
 use Rattle.matrix.proofs.sum.Goals as goal
 
-pub loop-q-init : goal.loop-q-init
-loop-q-init c = filled_none _ _
-
-pub loop-q-preserved : goal.loop-q-preserved
-loop-q-preserved c = filled_more _ _ _ _ _ c.loop-q.invariant (search rules) refl
-
-pub shape_of-out : goal.shape_of-out
-shape_of-out c = c.loop-q.invariant.same
-
 pub returns : goal.returns
 unfolding sum
-returns c = filled-all _ _ _ _ c.loop-q.invariant (search rules)
+returns c = tab-each nan _ _ _ (search rules) (λ j h. let e = c.set_each.ensures j h in search rules)

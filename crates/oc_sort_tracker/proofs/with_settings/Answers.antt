@@ -8,6 +8,6 @@ pub returns-then-in_range : goal.returns-then-in_range
 unfolding made_of
 returns-then-in_range c = made_by _ _ (rw (c.empty-tracker.ensures, sym c.in_range.ensures ∙ c.if-in_range.true))
 
-pub returns : goal.returns
+pub returns-else-in_range : goal.returns-else-in_range
 unfolding made_of
-returns c = made_by _ _ (rw (c.empty-tracker.ensures, sym c.in_range.ensures ∙ c.if-in_range.false))
+returns-else-in_range c = made_by _ _ (rw (c.empty-tracker.ensures, sym c.in_range.ensures ∙ c.if-in_range.false))

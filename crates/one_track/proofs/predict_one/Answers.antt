@@ -2,4 +2,4 @@
 use Rattle.one_track.proofs.predict_one.Goals as goal
 
 pub returns : goal.returns
-returns c = rw c.predict-track.ensures
+returns c = rw c.predict.ensures

@@ -4,4 +4,4 @@ use Rattle.own_rules.proofs.is_sound.Goals as goal
 
 pub returns : goal.returns
 unfolding own_rules
-returns c = rw (c.is_entry.ensures, c.holds_list.ensures, c.is_seen-seen.ensures)
+returns c = rw (c.is_entry.ensures, c.is_some.ensures, c.is_some-seen.ensures)

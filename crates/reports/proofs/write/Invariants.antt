@@ -8,6 +8,3 @@ use Rattle.reports.proofs.write.Given as goal
 
 abbrev pub invariant-loop-i : goal.invariant-loop-i
 invariant-loop-i l = (l.n + l.i ≤ l.ts.count) × Written (reports_of l.s l.frames (drop l.i (tracks_in l.ts))) l.n l.initial.boxes l.initial.ids l.boxes l.ids
-
-abbrev pub decreases-loop-i : goal.decreases-loop-i
-decreases-loop-i l = l.i

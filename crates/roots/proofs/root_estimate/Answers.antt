@@ -3,6 +3,10 @@ use Prim.Native.Nat.{ℕ, ◌+◌, ◌-◌, ◌*◌, ◌/◌, ◌%◌, ◌^◌, 
 use native.Mathlib.Nat.{mul-le-mul, le_of_lt, mod-lt}
 use native.Mathlib.Omega.{arith}
 use lib.Dec.{lit<}
+use mathlib.Core.Path.{refl}
+use lib.ListN.{get_or}
+use Rattle.roots.specs.declared.TheConstants.{STEP_RECIPROCALS, STEP_ROOTS}
+use Rattle.roots.proofs.Tables.{entry-small}
 use Rattle.roots.proofs.root_estimate.Goals as goal
 
 digits : (m r : ℕ) → m < 2 ^ 24 → r < 2 ^ 32 → m * r ≤ 2 ^ 24 * 2 ^ 32
@@ -30,29 +34,41 @@ scaled s u h k = mul-le-mul (le_of_lt h) (less u (u * u / 2 ^ 31 * bend u / 2 ^ 
     less : (u x : ℕ) → u < 2 ^ 27 → 2147483646 + u / 2 - x ≤ 2 ^ 31 + 2 ^ 26
     less u x h = omega arith
 
+abbrev place : ℕ → ℕ
+place m = m / 2 ^ 18 % 32
+
+abbrev reciprocal : ℕ → ℕ
+reciprocal m = get_or STEP_RECIPROCALS (place m) 0
+
 pub overflow_mul-u : goal.overflow_mul-u
-overflow_mul-u c = omega (arith, digits c.args.m c.step_reciprocal.result c.requires.0 (omega arith))
+overflow_mul-u c = let m = c.args.m in omega (arith, digits m (reciprocal m) c.requires.0 (entry-small STEP_RECIPROCALS (place m) refl))
 
-abbrev u-of : (c : goal.After-step_reciprocal) → ℕ
-u-of c = c.args.m * c.step_reciprocal.result % 2 ^ 27
+abbrev u-of : ℕ → ℕ
+u-of m = m * reciprocal m % 2 ^ 27
 
-small : (c : goal.After-step_reciprocal) → u-of c < 2 ^ 27
-small c = mod-lt (c.args.m * c.step_reciprocal.result) (lit< tt)
+less : (m : ℕ) → u-of m < 2 ^ 27
+less m = mod-lt (m * reciprocal m) (lit< tt)
+
+abbrev step-root : ℕ → ℕ → ℕ
+step-root m odd = get_or STEP_ROOTS (odd * 32 + place m) 0
+
+whole : (m odd : ℕ) → step-root m odd * root (u-of m) ≤ 2 ^ 32 * (2 ^ 31 + 2 ^ 26)
+whole m odd = scaled (step-root m odd) (u-of m) (entry-small STEP_ROOTS (odd * 32 + place m) refl) (less m)
 
 pub overflow_mul-square : goal.overflow_mul-square
-overflow_mul-square c = omega (arith, square (u-of c) (small c))
+overflow_mul-square c = let m = c.args.m in omega (arith, square (u-of m) (less m))
 
 pub overflow_mul-root : goal.overflow_mul-root
-overflow_mul-root c = omega (arith, bent (u-of c) (small c))
+overflow_mul-root c = let m = c.args.m in omega (arith, bent (u-of m) (less m))
 
 pub overflow_sub-root : goal.overflow_sub-root
-overflow_sub-root c = omega (arith, bent (u-of c) (small c))
+overflow_sub-root c = let m = c.args.m in omega (arith, bent (u-of m) (less m))
 
-pub overflow_mul-result : goal.overflow_mul-result
-overflow_mul-result c = omega (arith, scaled c.step_root.result (u-of c.before) (omega arith) (small c.before))
+pub overflow_mul-result-2 : goal.overflow_mul-result-2
+overflow_mul-result-2 c = omega (arith, whole c.args.m c.args.odd)
 
-pub overflow_add-result : goal.overflow_add-result
-overflow_add-result c = omega (arith, scaled c.step_root.result (u-of c.before) (omega arith) (small c.before))
+pub overflow_add-result-2 : goal.overflow_add-result-2
+overflow_add-result-2 c = omega (arith, whole c.args.m c.args.odd)
 
 pub returns : goal.returns
-returns c = omega (arith, scaled c.step_root.result (u-of c.before) (omega arith) (small c.before))
+returns c = omega (arith, whole c.args.m c.args.odd)

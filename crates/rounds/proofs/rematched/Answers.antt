@@ -9,8 +9,7 @@ use Rattle.matching.specs.Associate.{det_at, corners_at, reassociate}
 use Rattle.matching.specs.Paired.{Paired}
 use Rattle.grants.specs.declared.Places.{Places}
 use Rattle.grants.specs.Grants.{open_in}
-use Rattle.grants.proofs.Known.{cells-long}
-use Rattle.grants.proofs.Opening.{few, open-below, all-below, places-below, places_count, opened, targets-long}
+use Rattle.grants.proofs.Opening.{few, open-below, all-below, places-below, places_count, opened}
 use Rattle.rounds.proofs.Tying.{all_named, reassociate-paired, later-is}
 use Rattle.rounds.proofs.rematched.Goals as goal
 
@@ -20,16 +19,10 @@ gather-targets-requires c =
     let js = open_in s.args.count s.args.grants in
     rw c.open_places-places.ensures (omega (arith, places_count js, few s.args.grants s.args.count, s.requires.0), places-below js 64 (omega arith) (all-below s.args.count 64 s.requires.0 js (open-below s.args.count s.args.grants)))
 
-pub simple_iou_match-marks-requires : goal.simple_iou_match-marks-requires
-simple_iou_match-marks-requires c =
-    let s = c in
-    let p = c.open_places-places.result in
-    let n : p.n ≤ 64 = opened s.args.count s.args.grants p s.requires.0 c.open_places-places.ensures in (
-      s.requires.1,
-      n,
-      omega (arith, s.requires.1, cells-long s.args.dets _ s.well_formed.1.1.1.0),
-      rw c.gather-targets.ensures (omega (arith, n, targets-long (corners_at s.args.boxes) p n)),
-    )
+pub invariant_of-simple_iou_match-2 : goal.invariant_of-simple_iou_match-2
+invariant_of-simple_iou_match-2 c =
+    let n : c.open_places-places.result.n ≤ 64 = opened c.args.count c.args.grants c.open_places-places.result c.requires.0 c.open_places-places.ensures in
+    record { few = n; fits = omega arith }
 
 pub by_marks-requires : goal.by_marks-requires
 by_marks-requires c =

@@ -1,6 +1,6 @@
 -- The measure is the rows that remain. The loop has added what the next row gives with none or with one in the columns so far.
 use mathlib.Core.Path.{◌≡◌}
-use Prim.Native.Nat.{◌-◌, ◌≤◌}
+use Prim.Native.Nat.{◌-◌}
 use Rattle.shortcut_counts.proofs.Columns.{up_to}
 use Rattle.shortcut_counts.proofs.+count_placements.Given as goal
 
@@ -8,7 +8,4 @@ abbrev pub decreases-count_placements : goal.decreases-count_placements
 decreases-count_placements l = l.rows
 
 abbrev pub invariant-loop-column : goal.invariant-loop-column
-invariant-loop-column l = (l.column ≤ l.columns) × (l.n ≡ up_to (l.rows - 1) l.columns l.mask l.column)
-
-abbrev pub decreases-loop-column : goal.decreases-loop-column
-decreases-loop-column l = l.columns - l.column
+invariant-loop-column l = l.n ≡ up_to (l.rows - 1) l.columns l.mask l.column

@@ -4,4 +4,4 @@ use Rattle.strack.proofs.find_previous_box.Goals as goal
 
 pub returns : goal.returns
 unfolding previous_of
-returns c = rw (c.or_box.ensures, c.oldest_box.ensures)
+returns c = rw (c.or.ensures, c.oldest_box.ensures)

@@ -4,4 +4,4 @@ use Rattle.strack.proofs.heading.Goals as goal
 
 pub returns : goal.returns
 unfolding heading_of
-returns c = rw (c.heading_from.ensures, c.k_previous_obs-found.ensures)
+returns c = rw (c.heading_from.ensures, c.k_previous_obs.ensures)

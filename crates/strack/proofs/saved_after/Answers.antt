@@ -7,9 +7,9 @@ use Rattle.strack.proofs.saved_after.Goals as goal
 pub returns-then-t : goal.returns-then-t
 returns-then-t c = frozen-keeps c.args.t c.if-t.true
 
-pub returns-then-is_seen : goal.returns-then-is_seen
+pub returns-then-is_some : goal.returns-then-is_some
 unfolding freezes
-returns-then-is_seen c = search rules
+returns-then-is_some c = search rules
 
 pub returns : goal.returns
 unfolding freezes

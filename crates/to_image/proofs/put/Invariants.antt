@@ -1,6 +1,5 @@
 -- `to_image::put` meets its contract.
 use mathlib.Core.Path.{◌≡◌}
-use Prim.Native.Nat.{◌-◌, ◌≤◌}
 use lib.ListN.{take}
 use Rattle.lists.specs.Lists.{All}
 use Rattle.image.specs.Image.{image_of}
@@ -9,7 +8,4 @@ use Rattle.to_image.proofs.put.Given as goal
 
 abbrev pub invariant-loop-k : goal.invariant-loop-k
 invariant-loop-k l =
-    (l.k ≤ 64) × All Full (take l.k l.t.table) × (image_of l.wide l.floats l.words ≡ filled_to (image_of l.initial.wide l.initial.floats l.initial.words) (take l.k l.t.table))
-
-abbrev pub decreases-loop-k : goal.decreases-loop-k
-decreases-loop-k l = 64 - l.k
+    All Full (take l.k l.t.table) × (image_of l.wide l.floats l.words ≡ filled_to (image_of l.initial.wide l.initial.floats l.initial.words) (take l.k l.t.table))

@@ -9,7 +9,6 @@ use Rattle.objects.specs.Dets.{five_of}
 use Rattle.matching.specs.Associate.{four_of}
 use Rattle.views.specs.Views.{two_of, views_of}
 use Rattle.views.proofs.Seeing.{seen, seen-count, filled-long, turn}
-use borrow.Author.Rules.{rules}
 use Rattle.views.proofs.all.Goals as goal
 use Rattle.views.proofs.all.Goals.{In-loop-j}
 
@@ -34,14 +33,14 @@ facts c =
       more = more;
       below = below;
       there = there;
-      boxes = filled-long (tracked_view s.args.s) s.args.table (λ (v : View). four_of v.box) 4 (λ v. refl) 256 l.j (omega arith) (omega arith) l.boxes l.invariant.1;
-      directions = filled-long (tracked_view s.args.s) s.args.table (λ (v : View). two_of v.direction) 2 (λ v. refl) 128 l.j (omega arith) (omega arith) l.directions l.invariant.2;
-      lasts = filled-long (tracked_view s.args.s) s.args.table (λ (v : View). four_of v.last) 4 (λ v. refl) 256 l.j (omega arith) (omega arith) l.lasts l.invariant.3;
-      previous = filled-long (tracked_view s.args.s) s.args.table (λ (v : View). five_of v.previous) 5 (λ v. refl) 320 l.j (omega arith) (omega arith) l.previous l.invariant.4;
+      boxes = filled-long (tracked_view s.args.s) s.args.table (λ (v : View). four_of v.box) 4 (λ v. refl) 256 l.j (omega arith) (omega arith) l.boxes l.invariant.0;
+      directions = filled-long (tracked_view s.args.s) s.args.table (λ (v : View). two_of v.direction) 2 (λ v. refl) 128 l.j (omega arith) (omega arith) l.directions l.invariant.1;
+      lasts = filled-long (tracked_view s.args.s) s.args.table (λ (v : View). four_of v.last) 4 (λ v. refl) 256 l.j (omega arith) (omega arith) l.lasts l.invariant.2;
+      previous = filled-long (tracked_view s.args.s) s.args.table (λ (v : View). five_of v.previous) 5 (λ v. refl) 320 l.j (omega arith) (omega arith) l.previous l.invariant.3;
     }
 
 pub loop-j-init : goal.loop-j-init
-loop-j-init c = (omega arith, rw c.nan-nan.ensures, rw c.nan-nan.ensures, rw c.nan-nan.ensures, rw c.nan-nan.ensures)
+loop-j-init c = (rw c.nan-nan.ensures, rw c.nan-nan.ensures, rw c.nan-nan.ensures, rw c.nan-nan.ensures)
 
 pub slice_bounds-put_view-end : goal.slice_bounds-put_view-end
 slice_bounds-put_view-end c = sym (facts c.before.before).boxes
@@ -58,12 +57,6 @@ slice_bounds-put_view-end-in-loop-j-3 c = sym (facts c.before.before.before.befo
 pub put_view-requires : goal.put_view-requires
 put_view-requires c = let f = facts c.before.before.before.before.before in (f.below, c.requires.1, f.boxes, f.directions, f.lasts, f.previous)
 
-pub overflow_add-j : goal.overflow_add-j
-overflow_add-j c = let f = facts c.before.before.before.before.before.before.before.before.before.before in search rules
-
-pub loop-j-smaller : goal.loop-j-smaller
-loop-j-smaller c = let f = facts c.before.before.before.before.before.before.before.before.before.before in omega arith
-
 pub loop-j-preserved : goal.loop-j-preserved
 loop-j-preserved c =
     let s = c in
@@ -71,11 +64,10 @@ loop-j-preserved c =
     let p = c.put_view in
     let f = tracked_view s.args.s in
     let g = facts c.before.before.before.before.before.before.before.before.before.before in (
-      omega arith,
-      turn f s.args.table (λ (v : View). four_of v.box) 4 (λ v. refl) 256 l.j (omega arith) g.there _ l.boxes _ _ l.invariant.1 refl p.ensures.0,
-      turn f s.args.table (λ (v : View). two_of v.direction) 2 (λ v. refl) 128 l.j (omega arith) g.there _ l.directions _ _ l.invariant.2 refl p.ensures.1,
-      turn f s.args.table (λ (v : View). four_of v.last) 4 (λ v. refl) 256 l.j (omega arith) g.there _ l.lasts _ _ l.invariant.3 refl p.ensures.2,
-      turn f s.args.table (λ (v : View). five_of v.previous) 5 (λ v. refl) 320 l.j (omega arith) g.there _ l.previous _ _ l.invariant.4 refl p.ensures.3,
+      turn f s.args.table (λ (v : View). four_of v.box) 4 (λ v. refl) 256 l.j (omega arith) g.there _ l.boxes _ _ l.invariant.0 refl p.ensures.0,
+      turn f s.args.table (λ (v : View). two_of v.direction) 2 (λ v. refl) 128 l.j (omega arith) g.there _ l.directions _ _ l.invariant.1 refl p.ensures.1,
+      turn f s.args.table (λ (v : View). four_of v.last) 4 (λ v. refl) 256 l.j (omega arith) g.there _ l.lasts _ _ l.invariant.2 refl p.ensures.2,
+      turn f s.args.table (λ (v : View). five_of v.previous) 5 (λ v. refl) 320 l.j (omega arith) g.there _ l.previous _ _ l.invariant.3 refl p.ensures.3,
     )
 
 pub returns : goal.returns
@@ -85,4 +77,4 @@ returns c =
     let l = c.loop-j in
     let e : l.j ≡ s.args.count = omega arith in
     let n : s.args.count ≡ length (seen (tracked_view s.args.s) s.args.table s.args.count) = sym (seen-count (tracked_view s.args.s) s.args.table s.args.count (omega arith)) in
-    λ i. record { n = n i; boxes = (rw e at l.invariant.1) i; directions = (rw e at l.invariant.2) i; lasts = (rw e at l.invariant.3) i; previous = (rw e at l.invariant.4) i }
+    λ i. record { n = n i; boxes = (rw e at l.invariant.0) i; directions = (rw e at l.invariant.1) i; lasts = (rw e at l.invariant.2) i; previous = (rw e at l.invariant.3) i }

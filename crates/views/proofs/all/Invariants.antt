@@ -1,6 +1,5 @@
 -- `views::all` meets its contract.
 use mathlib.Core.Path.{◌≡◌}
-use Prim.Native.Nat.{◌-◌, ◌≤◌}
 use Rattle.frame.specs.Rounds.{View}
 use Rattle.frame.specs.Frame.{tracked_view}
 use Rattle.lists.specs.Lists.{flat}
@@ -13,11 +12,7 @@ use Rattle.views.proofs.all.Given as goal
 
 abbrev pub invariant-loop-j : goal.invariant-loop-j
 invariant-loop-j l =
-    (l.j ≤ l.count)
-    × (l.boxes ≡ padded 256 (flat (λ (v : View). four_of v.box) (seen (tracked_view l.s) l.table l.j)))
+    (l.boxes ≡ padded 256 (flat (λ (v : View). four_of v.box) (seen (tracked_view l.s) l.table l.j)))
     × (l.directions ≡ padded 128 (flat (λ (v : View). two_of v.direction) (seen (tracked_view l.s) l.table l.j)))
     × (l.lasts ≡ padded 256 (flat (λ (v : View). four_of v.last) (seen (tracked_view l.s) l.table l.j)))
     × (l.previous ≡ padded 320 (flat (λ (v : View). five_of v.previous) (seen (tracked_view l.s) l.table l.j)))
-
-abbrev pub decreases-loop-j : goal.decreases-loop-j
-decreases-loop-j l = l.count - l.j

@@ -1,0 +1,3 @@
+pub mod OpsOn
+pub mod Laws
+pub mod Models

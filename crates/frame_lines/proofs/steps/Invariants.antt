@@ -1,8 +1,0 @@
--- `frame_lines::steps` meets its contract.
-use Rattle.frame_lines.proofs.steps.Given as goal
-
-abbrev pub invariant-loop-left : goal.invariant-loop-left
-invariant-loop-left l = Unit {0}
-
-abbrev pub decreases-loop-left : goal.decreases-loop-left
-decreases-loop-left l = l.left

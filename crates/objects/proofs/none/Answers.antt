@@ -1,7 +1,0 @@
--- `objects::none` meets its contract.
-use Rattle.objects.specs.Dets.{dets_of}
-use Rattle.objects.proofs.none.Goals as goal
-
-pub returns : goal.returns
-unfolding dets_of
-returns c = rw c.nan-cells.ensures

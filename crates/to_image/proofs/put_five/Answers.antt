@@ -1,6 +1,0 @@
--- `to_image::put_five` meets its contract.
-use native.Mathlib.Numerals.{unary_clauses}
-use Rattle.to_image.proofs.put_five.Goals as goal
-
-pub returns : goal.returns
-returns c = simp unary_clauses

@@ -1,6 +1,0 @@
--- `to_image::put_four` meets its contract.
-use native.Mathlib.Numerals.{unary_clauses}
-use Rattle.to_image.proofs.put_four.Goals as goal
-
-pub returns : goal.returns
-returns c = simp unary_clauses
