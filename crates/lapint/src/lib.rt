@@ -41,17 +41,7 @@ pub fn lapint(n: usize, cost: &[i64], x: &mut [i64], y: &mut [i64]) -> Result<()
     }
     let mut rows = [0usize; 64];
     let mut v = [0i64; 64];
-    let mut d = [0i64; 64];
     let mut pred = [0usize; 64];
-    lapjv_in(
-        n,
-        cost,
-        &mut rows[..n],
-        &mut v[..n],
-        &mut d[..n],
-        &mut pred[..n],
-        x,
-        y,
-    );
+    lapjv_in(n, cost, &mut rows[..n], &mut v[..n], &mut pred[..n], x, y);
     Ok(())
 }

@@ -7,6 +7,8 @@ ghost use Rattle.lapjv_walk.specs.Path.{find_dense, last_free, search_from, sear
 ghost use Rattle.lapjv_walk.specs.Reads.{search_turn_reads, search_reads, find_path_reads};
 ghost use Rattle.lapjv_walk.specs.Holds.{Square, Apart, Marked, Held, Room};
 ghost use Rattle.costs.specs.OpsOn.{ops};
+ghost use Rattle.std.specs.Mem.{FitsInMemory};
+ghost use Rattle.std.specs.Borrow.{Array};
 
 use costs::{Cost, reduced_cost};
 use lapjv_scan::{Scanned, scan_dense};
@@ -181,19 +183,19 @@ fn find_path_in<C: Cost>(
 }
 
 // The free column at the end of the shortest way from row start, and the costs read; pred gets the row before each column, and v the new prices.
-// d is lent: that 64 costs of any type C fit the memory can't be proved, so a caller that knows C makes the array.
+// That 64 costs of type C fit the memory is asked for, since of a type that isn't known it can't be proved; of f64 and i64 the check sees it.
 pub fn find_path_dense<C: Cost>(
     n: usize,
     cost: &[C],
     start: usize,
-    d: &mut [C],
     y: &[i64],
     v: &mut [C],
     pred: &mut [usize],
 ) -> Way
-    requires { Square n cost.now × (start < n) × (length d.old ≡ n) × Marked n y.now × Room n y.now × (length v.old ≡ n) × (length pred.old ≡ n) × C.Costs n cost.now × C.Good n cost.now y.now v.old }
+    requires { Square n cost.now × (start < n) × FitsInMemory (Array C.row 64) × Marked n y.now × Room n y.now × (length v.old ≡ n) × (length pred.old ≡ n) × C.Costs n cost.now × C.Good n cost.now y.now v.old }
     ensures { (find_path_dense (ops C.on) n cost.now start y.now v.old ≡ record { pred = pred.exit.now; last = pos result.last; v = v.new }) × (result.reads ≡ find_path_reads (ops C.on) n cost.now start y.now v.old) }
 {
+    let mut d = [C::large(); 64];
     let mut cols = [0usize; 64];
-    find_path_in(n, cost, start, d, &mut cols[..n], y, v, pred)
+    find_path_in(n, cost, start, &mut d[..n], &mut cols[..n], y, v, pred)
 }

@@ -1,6 +1,7 @@
 -- `lapint::lapint` meets its contract.
 use mathlib.Core.Path.{ap, subst, sym}
 use lib.ListN.{length}
+use native.Mathlib.Omega.{arith}
 use Rattle.lapjv_walk.specs.Holds.{Square}
 use Rattle.lapjv_walk.specs.Lapjv.{OneToOne, Pairs}
 use Rattle.lapjv_walk.proofs.Fill.{take-fill, take_long}
@@ -17,7 +18,7 @@ lapjv_in-requires c =
     let a = c.args in
     let s = fits-sizes a.n (length a.cost.now) (length a.x.now) (length a.y.now) (sym c.if-not-sizes_fit.ensures) in
     let q : Square a.n a.cost.now = record { some = s.some; most = s.most; len = s.costs-n } in
-    (q, in-range-costs a.n a.cost.now q (sym c.if-not-all_in_range.ensures), take-fill 0 64 a.n s.most, take_long _ 64 a.n s.most, take_long _ 64 a.n s.most, take_long _ 64 a.n s.most, s.rows-n, s.columns-n)
+    (q, in-range-costs a.n a.cost.now q (sym c.if-not-all_in_range.ensures), take-fill 0 64 a.n s.most, take_long _ 64 a.n s.most, omega arith, take_long _ 64 a.n s.most, s.rows-n, s.columns-n)
 
 pub returns : goal.returns
 returns c =

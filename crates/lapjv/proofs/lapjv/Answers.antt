@@ -1,6 +1,7 @@
 -- `lapjv::lapjv` meets its contract.
 use mathlib.Core.Path.{ap, subst, sym}
 use lib.ListN.{length}
+use native.Mathlib.Omega.{arith}
 use Rattle.lapjv_walk.specs.Lapjv.{OneToOne, Pairs}
 use Rattle.lapjv_walk.specs.Ops.{floats}
 use Rattle.lapjv_walk.proofs.Fill.{take-fill, take_long}
@@ -13,7 +14,7 @@ pub lapjv_in-reads-requires : goal.lapjv_in-reads-requires
 lapjv_in-reads-requires c =
     let a = c.args in
     let s = fits-sizes a.n (length a.cost.now) (length a.x.now) (length a.y.now) (sym c.if-not-sizes_fit.ensures) in
-    (record { some = s.some; most = s.most; len = s.costs-n }, tt, take-fill 0 64 a.n s.most, take_long _ 64 a.n s.most, take_long _ 64 a.n s.most, take_long _ 64 a.n s.most, s.rows-n, s.columns-n)
+    (record { some = s.some; most = s.most; len = s.costs-n }, tt, take-fill 0 64 a.n s.most, take_long _ 64 a.n s.most, omega arith, take_long _ 64 a.n s.most, s.rows-n, s.columns-n)
 
 pub returns : goal.returns
 returns c =

@@ -37,7 +37,7 @@ ca_row-reads-requires g c =
     let h = c.loop-r-test.true in (
       p.0,
       start-below O a.n a.cost.now a.rows.now a.count l.r s h q,
-      omega (arith, p.1, l.auto.d),
+      p.1,
       omega (arith, p.2, l.auto.pred),
       paired-ranged a.n (λ k. Waits (λ i. After a.count l.r i) a.rows.now k) l.x l.y p.0.some q.pairs,
       columns-marked O a.n a.cost.now a.rows.now a.count l.r s h q,
