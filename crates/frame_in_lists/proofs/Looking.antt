@@ -7,8 +7,7 @@ use native.Mathlib.Omega.{arith}
 use lib.Ieee.{Float, nan}
 use lib.ListN.{length, take, get_or, set, replicate, length-append, length-map, get_or-map}
 use lib.Seq.{sets}
-use Rattle.std.specs.Prelude.{Option, Some, None, Result, Ok, Err}
-use Rattle.std.specs.Bool.{then_some}
+use Rattle.std.specs.Prelude.{Result, Ok, Err}
 use Rattle.lists.specs.Lists.{pick, put, flat}
 use Rattle.lists.proofs.Tab.{length-tab, get_or-tab}
 use Rattle.lists.proofs.All.{map-append}
@@ -96,11 +95,11 @@ module _ (n : ℕ) (vs : List View) (vb vd vl vp : List Float) (e : views_by n v
 
 -- ---- a track one frame ahead, or its refusal
 
-abbrev each : {A : Type 0} → Option A → List A
-each None = []
-each (Some x) = x ∷ []
+abbrev each : {A : Type 0} → Result A A → List A
+each (Ok x) = x ∷ []
+each (Err x) = []
 
-put-each : {A : Type 0} (b : Bool) (x : A) → put b x [] ≡ each (then_some b x)
+put-each : {A : Type 0} (b : Bool) (x : A) → put b x [] ≡ each (pick b (Ok x) (Err x))
 put-each true x = refl
 put-each false x = refl
 
@@ -191,7 +190,7 @@ module _ {i : TrackerImage} {s : Settings} {w : List Tracked} {vb vd vl vp : Lis
           ∙ usable-passed (settings_in i) (frames_in i) (issued_in i) (cells i) (count_in i) from u d short below (said true step.0)
           ∙ ap (λ (n : ℕ). usable (settings_in i) (frames_in i) (issued_in i) (cells i) (count_in i) n (u + 1)) (ap (λ (c : Cell). (thaw_track c).id + 1) that ∙ sym (ap (λ (x : Ahead). x.next) step.1))
 
-      one_more : {o : Option Tracked} → a.tracked ≡ o → ahead_to i (u + 1) ≡ ahead_to i u ++ each o
+      one_more : {o : Result Tracked Tracked} → a.tracked ≡ o → ahead_to i (u + 1) ≡ ahead_to i u ++ each o
       unfolding predicted_tracks
       one_more q =
           let p : predict_tracked (get_or (table_in i) u (thaw_track d)) ≡ predict_tracked (track_in i u) = ap predict_tracked (get_or-map thaw_track (cells i) u d ∙ ap thaw_track that) in
@@ -200,20 +199,20 @@ module _ {i : TrackerImage} {s : Settings} {w : List Tracked} {vb vd vl vp : Lis
           ∙ ap (λ (l : List Tracked). table.passed unbroken predict_tracked (table_in i) u ++ l) (put-each (unbroken (predict_tracked (track_in i u))) (predict_tracked (track_in i u)) ∙ ap each (sym (ap (λ (x : Ahead). x.tracked) step.1) ∙ q))
 
       -- prediction broke the track
-      pub looked-left : a.tracked ≡ None → Looked i s w vb vd vl vp a.next ahead (u + 1)
-      looked-left q =
-          let e : ahead_to i (u + 1) ≡ ahead_to i u = one_more q ∙ append-nil (ahead_to i u) in
+      pub looked-left : {e : Tracked} → a.tracked ≡ Err e → Looked i s w vb vd vl vp a.next ahead (u + 1)
+      looked-left {e} q =
+          let same : ahead_to i (u + 1) ≡ ahead_to i u = one_more q ∙ append-nil (ahead_to i u) in
           record {
             same = h.same;
             fit = h.fit;
             rest = next-rest;
             reached = omega (arith, below);
-            holds = subst (λ (l : List Tracked). Holds l ahead w) (sym e) h.holds;
-            views = h.views ∙ ap (λ (l : List Tracked). views_of (map (tracked_view s) l)) (sym e);
+            holds = subst (λ (l : List Tracked). Holds l ahead w) (sym same) h.holds;
+            views = h.views ∙ ap (λ (l : List Tracked). views_of (map (tracked_view s) l)) (sym same);
           }
 
       -- or left it
-      pub looked-taken : {e : Tracked} {vb' vd' vl' vp' : List Float} → a.tracked ≡ Some e
+      pub looked-taken : {e : Tracked} {vb' vd' vl' vp' : List Float} → a.tracked ≡ Ok e
           → (vb' ≡ sets vb (4 * ahead) (four_of (tracked_view s e).box)) × (vd' ≡ sets vd (2 * ahead) (two_of (tracked_view s e).direction)) × (vl' ≡ sets vl (4 * ahead) (four_of (tracked_view s e).last)) × (vp' ≡ sets vp (5 * ahead) (five_of (tracked_view s e).previous))
           → Looked i s (set w ahead e) vb' vd' vl' vp' a.next (ahead + 1) (u + 1)
       looked-taken {e} {vb'} {vd'} {vl'} {vp'} q wrote =

@@ -9,7 +9,6 @@ use lib.Dec.{leb, ltb}
 use lib.Ieee.{Float}
 use lib.ListN.{set}
 use Rattle.std.specs.Prelude.{Ok, Err}
-use Rattle.std.specs.Bool.{then_some}
 use Rattle.lists.specs.Lists.{pick}
 use Rattle.object.specs.declared.Refusal.TheVariants.{UnsoundState}
 use Rattle.lapjv_walk.proofs.Cases.{and_left, and_right}
@@ -86,10 +85,10 @@ module _ (i : TrackerImage) (from k : ℕ) (e : Tracked) (is : e ≡ track_in i 
     pub can-follow : usable_totals i ≡ true → e.id < 64000000
     can-follow t = omega (arith, id_below (settings_in i) (frames_in i) (issued_in i) from (track_in i k) sound, (bounds i t).issued, (bounds i t).frames, ap (λ (x : Tracked). x.id) is)
 
-    pub ahead-usable : (p : Tracked) (b : Bool) → p ≡ predict_tracked e → b ≡ unbroken p → Ok (record { next = e.id + 1; tracked = then_some b p }) ≡ ahead_of i from k
+    pub ahead-usable : (p : Tracked) (b : Bool) → p ≡ predict_tracked e → b ≡ unbroken p → Ok (record { next = e.id + 1; tracked = pick b (Ok p) (Err p) }) ≡ ahead_of i from k
     ahead-usable p b q w =
         let ahead : p ≡ predict_tracked (track_in i k) = q ∙ ap predict_tracked is in
-        let step : record { next = e.id + 1; tracked = then_some b p } ≡ step_of i k = λ j. record { next = (is j).id + 1; tracked = then_some ((w ∙ ap unbroken ahead) j) (ahead j) } in
+        let step : record { next = e.id + 1; tracked = pick b (Ok p) (Err p) } ≡ step_of i k = λ j. record { next = (is j).id + 1; tracked = pick ((w ∙ ap unbroken ahead) j) (Ok (ahead j)) (Err (ahead j)) } in
         ap (λ (a : Ahead). Ok a) step ∙ ap (λ (b : Bool). pick b (Ok (step_of i k)) (Err UnsoundState)) (sym h)
 
 -- ---- once the pairs are known

@@ -1,6 +1,5 @@
 -- What the parts of a frame in place do, on the image that the caller lends. Definitions only.
 use Rattle.std.specs.Prelude.{◌≡◌, Bool, ◌&&◌, List, ℕ, ◌+◌, Float, set, Result, Ok, Err}
-use Rattle.std.specs.Bool.{then_some}
 use Rattle.lists.specs.Lists.{pick}
 use Rattle.object.specs.declared.Refusal.{Refusal}
 use Rattle.object.specs.declared.Refusal.TheVariants.{UnsoundState}
@@ -31,9 +30,9 @@ track_in i k = thaw_track (cell_at i k)
 abbrev pub usable_at : TrackerImage → ℕ → ℕ → Bool
 usable_at i from k = meant_track (cell_at i k) && sound_at (settings_in i) (frames_in i) (issued_in i) from (track_in i k)
 
--- track k one frame ahead if prediction leaves it unbroken, and the least id that the next one may have
+-- track k one frame ahead, Err where prediction breaks it, and the least id that the next one may have
 abbrev pub step_of : TrackerImage → ℕ → Ahead
-step_of i k = let p = predict_tracked (track_in i k) in record { next = (track_in i k).id + 1; tracked = then_some (unbroken p) p }
+step_of i k = let p = predict_tracked (track_in i k) in record { next = (track_in i k).id + 1; tracked = pick (unbroken p) (Ok p) (Err p) }
 
 abbrev pub ahead_of : TrackerImage → ℕ → ℕ → Result Ahead Refusal
 ahead_of i from k = pick (usable_at i from k) (Ok (step_of i k)) (Err UnsoundState)

@@ -25,11 +25,11 @@ pub fn are_totals_usable(wide: &[u64; 66], floats: &[f32; 10435], words: &[u32; 
 
 // ---- up to the rounds
 
-// A track one frame ahead, or None where prediction broke it. The next track's id is `next` or above.
+// A track one frame ahead, as an Err where prediction broke it. The next track's id is `next` or above.
 #[derive(Clone, Copy)]
 pub struct Ahead {
     pub next: u64,
-    pub tracked: Option<Tracked>,
+    pub tracked: Result<Tracked, Tracked>,
 }
 
 // Track k, if it means something and obeys the state rules, with an id of `from` or above.
@@ -52,7 +52,11 @@ pub fn ahead_at(
     let p = one_track::predict_one(e);
     Ok(Ahead {
         next: e.id + 1,
-        tracked: one_track::is_unbroken(p).then_some(p),
+        tracked: if one_track::is_unbroken(p) {
+            Ok(p)
+        } else {
+            Err(p)
+        },
     })
 }
 

@@ -70,7 +70,7 @@ fn framed(
     let mut ahead = 0;
     for u in 0..count {
         let a = frame_in_lists::ahead_at(wide, floats, words, from, u)?;
-        if let Some(e) = a.tracked {
+        if let Ok(e) = a.tracked {
             table[ahead] = e;
             views::put_view(s, e, ahead, &mut seen, &mut steps, &mut lasts, &mut olds);
             ahead += 1;

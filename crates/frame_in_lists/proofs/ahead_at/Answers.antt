@@ -21,8 +21,14 @@ overflow_add-result c =
     let u = sym (test-is _ _ _ _ is _ _ _ (c.settings_in-s.ensures _) c.is_meant_at.ensures c.is_sound_at-sound.ensures) ∙ c.if-not-is_meant_at-sound.false in
     omega (arith, can-follow _ _ _ _ is u c.requires.1)
 
-pub returns : goal.returns
-returns c =
+pub returns-then-is_unbroken : goal.returns-then-is_unbroken
+returns-then-is_unbroken c =
     let is = c.track_at-e.ensures in
     let u = sym (test-is _ _ _ _ is _ _ _ (c.settings_in-s.ensures _) c.is_meant_at.ensures c.is_sound_at-sound.ensures) ∙ c.if-not-is_meant_at-sound.false in
-    rw c.then_some.ensures (ahead-usable _ _ _ _ is u _ _ c.predict_one-p.ensures c.is_unbroken.ensures)
+    ahead-usable _ _ _ _ is u _ _ c.predict_one-p.ensures (sym c.if-is_unbroken.true ∙ c.is_unbroken.ensures)
+
+pub returns-else-is_unbroken : goal.returns-else-is_unbroken
+returns-else-is_unbroken c =
+    let is = c.track_at-e.ensures in
+    let u = sym (test-is _ _ _ _ is _ _ _ (c.settings_in-s.ensures _) c.is_meant_at.ensures c.is_sound_at-sound.ensures) ∙ c.if-not-is_meant_at-sound.false in
+    ahead-usable _ _ _ _ is u _ _ c.predict_one-p.ensures (sym c.if-is_unbroken.false ∙ c.is_unbroken.ensures)

@@ -36,14 +36,14 @@ bounds-table-ahead c = omega (arith, looked-count c.loop-u.invariant, looked-few
 pub slice_bounds-put_view-end : goal.slice_bounds-put_view-end
 slice_bounds-put_view-end c = sym (looked-long c.loop-u.invariant).0
 
-pub slice_bounds-put_view-end-in-Some : goal.slice_bounds-put_view-end-in-Some
-slice_bounds-put_view-end-in-Some c = sym (looked-long c.loop-u.invariant).1
+pub slice_bounds-put_view-end-in-Ok : goal.slice_bounds-put_view-end-in-Ok
+slice_bounds-put_view-end-in-Ok c = sym (looked-long c.loop-u.invariant).1
 
-pub slice_bounds-put_view-end-in-Some-2 : goal.slice_bounds-put_view-end-in-Some-2
-slice_bounds-put_view-end-in-Some-2 c = sym (looked-long c.loop-u.invariant).2
+pub slice_bounds-put_view-end-in-Ok-2 : goal.slice_bounds-put_view-end-in-Ok-2
+slice_bounds-put_view-end-in-Ok-2 c = sym (looked-long c.loop-u.invariant).2
 
-pub slice_bounds-put_view-end-in-Some-3 : goal.slice_bounds-put_view-end-in-Some-3
-slice_bounds-put_view-end-in-Some-3 c = sym (looked-long c.loop-u.invariant).3
+pub slice_bounds-put_view-end-in-Ok-3 : goal.slice_bounds-put_view-end-in-Ok-3
+slice_bounds-put_view-end-in-Ok-3 c = sym (looked-long c.loop-u.invariant).3
 
 pub put_view-requires : goal.put_view-requires
 put_view-requires c =
@@ -59,7 +59,7 @@ loop-u-preserved c =
     let b = c.loop-u-test.true in
     let a = c.in_ok-a.ensures in
     elim c.match-a.branch [
-      | goal.in-Some w ↦ looked-as w.table-is w.seen-is w.steps-is w.lasts-is w.olds-is w.ahead-is (looked-taken l b a w.in-Some.is w.put_view.ensures)
+      | goal.in-Ok w ↦ looked-as w.table-is w.seen-is w.steps-is w.lasts-is w.olds-is w.ahead-is (looked-taken l b a w.in-Ok.is w.put_view.ensures)
       | goal.in_default w ↦ looked-as w.table-is w.seen-is w.steps-is w.lasts-is w.olds-is w.ahead-is (looked-left l b a w.in_default.is)
     ]
 
