@@ -8,7 +8,7 @@
  * the SatinjacksTracker that the caller holds. Copy, store or send its bytes
  * as you like; calls on different trackers may run at the same time. A tracker
  * that a version before document 02's 2.5 stored may be refused with 1: README,
- * 'What a host must know', says how to mend it. A frame needs up to 163 KiB of
+ * 'What a host must know', says how to mend it. A frame needs up to 157 KiB of
  * stack, making a tracker up to 49 KiB.
  *
  * Every pointer is aligned for its type and not null, also that of an empty

@@ -39,7 +39,8 @@ fn by_marks(marks: Marks, places: Places, dets: Dets, grants: [Option<Detection>
     }
 }
 
-// The round on predicted boxes, with directions: every track is open.
+// The round on predicted boxes, with directions: every track is open. Not inlined: its lists then don't stand on the stack while a later round runs.
+#[inline(never)]
 fn first_round(s: Settings, v: Views, dets: Dets) -> Pairing
     requires { (v.n ≤ 64) × (dets.n ≤ 64) }
     ensures { FirstOf s v dets result × ((os : List Obj) → dets ≡ dets_of os → result.left.n ≤ 64) }
