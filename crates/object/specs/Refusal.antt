@@ -1,5 +1,5 @@
 -- Document 01, 'What a call may be told': the number of each refusal. Definitions only.
-use Rattle.std.specs.Prelude.{ℕ, Result, Ok, Err}
+use Rattle.std.specs.Prelude.{◌≡◌, ℕ, Result, Ok, Err}
 use Rattle.object.specs.declared.Refusal.{Refusal}
 use Rattle.object.specs.declared.Refusal.TheVariants.{UnsoundState, BadSetting, RaggedFrame, CrowdedFrame, ShortAnswer, RunOver, FullTable, BadMatrix, CostOutOfRange}
 
@@ -19,3 +19,7 @@ number_of CostOutOfRange = 12
 abbrev pub told_of : {T : Type 0} → Result T Refusal → ℕ
 told_of (Ok x) = 0
 told_of (Err r) = number_of r
+
+-- who is told 0 was not turned away: no refusal has that number
+abbrev pub NoneIsZero : Type 0
+NoneIsZero = (r : Refusal) → number_of r ≡ 0 → ⊥

@@ -3,7 +3,7 @@
 
 ghost use Rattle.std.specs.Prelude.{◌≡◌};
 ghost use Rattle.object.specs.Object.{xyxy_of, rect_of, corners_of};
-ghost use Rattle.object.specs.Refusal.{number_of, told_of};
+ghost use Rattle.object.specs.Refusal.{number_of, told_of, NoneIsZero};
 
 // Left upper corner, width and height.
 #[derive(Clone, Copy)]
@@ -154,3 +154,8 @@ pub fn told<T: Copy>(r: Result<T, Refusal>) -> u64
         Err(refusal) => u64::from(u8::from(refusal)),
     }
 }
+
+// Does nothing, and ensures that no refusal has the number 0.
+pub fn no_refusal_is_zero()
+    ensures { NoneIsZero }
+{}
