@@ -4,7 +4,7 @@
 ghost use Rattle.std.specs.Prelude.{◌≡◌, length};
 ghost use Rattle.lapint.specs.Answer.{cost_in_range, all_in_range, WholeAnswer};
 
-use lapjv::{lapjv_in, sizes_fit};
+use lapjv::{lapjv_own, sizes_fit};
 use object::Refusal;
 
 // Whether the cost is from -1,000,000 to 1,000,000.
@@ -42,6 +42,6 @@ pub fn lapint(n: usize, cost: &[i64], x: &mut [i64], y: &mut [i64]) -> Result<()
     let mut rows = [0usize; 64];
     let mut v = [0i64; 64];
     let mut pred = [0usize; 64];
-    lapjv_in(n, cost, &mut rows[..n], &mut v[..n], &mut pred[..n], x, y);
+    lapjv_own(n, cost, &mut rows[..n], &mut v[..n], &mut pred[..n], x, y);
     Ok(())
 }

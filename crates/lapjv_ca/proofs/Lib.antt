@@ -1,3 +1,4 @@
 pub mod Budget
 pub mod Ranged
 pub mod Row
+pub mod Rows

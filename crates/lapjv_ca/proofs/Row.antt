@@ -2,11 +2,11 @@
 use mathlib.Core.Path.{ap, refl, sym, ◌∙◌, ◌≡◌}
 use mathlib.Core.Bool.{false}
 use mathlib.Core.List.{List}
-use Prim.Native.Nat.{◌<◌, ℕ}
+use Prim.Native.Nat.{◌<◌, ℕ, ◌≤◌}
 use lib.IntN.{pos, ℤ}
 use lib.ListN.{length}
 use Rattle.lapjv_walk.specs.Ends.{RowEnds}
-use Rattle.lapjv_walk.specs.Holds.{Marked, Room}
+use Rattle.lapjv_walk.specs.Holds.{Marked, Ranged, Room}
 use Rattle.lapjv_walk.specs.Lapjv.{augment, Ca, ca_step, hop_more}
 use Rattle.lapjv_walk.specs.Marks.{num_at}
 use Rattle.lapjv_walk.specs.Ops.{Ops}
@@ -36,6 +36,11 @@ module _ (O : Ops) (n : ℕ) (cost : List O.C) (start : ℕ) (hs : start < n) (x
 
   pub trail-over : RowEnds O n cost start (record { x = x; y = y; v = v }) → hop_more start (augment n pred start last x y) ≡ false
   trail-over r = rw e at r.trail_ends
+
+  -- all that the way back asks
+  pub back-asked : n ≤ 64 → Ranged n x → RowEnds O n cost start (record { x = x; y = y; v = v })
+      → (n ≤ 64) × (start < n) × (last < n) × (length pred ≡ n) × ((j : ℕ) → j < n → num_at pred j < n) × Ranged n x × (length y ≡ n) × (hop_more start (augment n pred start last x y) ≡ false)
+  back-asked most r ends = (most, hs, last-below, pred-long, pred-ranged, r, m.len, trail-over ends)
 
   pub row_is : (x' y' : List ℤ) → (augment n pred start last x y).x ≡ x' → (augment n pred start last x y).y ≡ y' → ca_step O n cost start (record { x = x; y = y; v = v }) ≡ record { x = x'; y = y'; v = v' }
   unfolding ca_step

@@ -12,7 +12,7 @@ ghost use Rattle.std.specs.Mem.{FitsInMemory};
 ghost use Rattle.std.specs.Borrow.{Array};
 
 use costs::Cost;
-use lapjv_path::find_path_dense;
+use lapjv_path::{find_path_dense, find_path_own};
 use lapjv_walk::{free_at, index_at, put_mark};
 
 // The column of row i, or 0 where it has none.
@@ -43,8 +43,50 @@ pub fn augment(n: usize, pred: &[usize], start: usize, last: usize, x: &mut [i64
     }
 }
 
-// The free row start gets a column, for so many reads.
+// The free row start gets a column, for so many reads; d is lent for the distances.
 fn ca_row<C: Cost>(
+    n: usize,
+    cost: &[C],
+    start: usize,
+    d: &mut [C],
+    pred: &mut [usize],
+    x: &mut [i64],
+    y: &mut [i64],
+    v: &mut [C],
+) -> usize
+    requires { Square n cost.now × (start < n) × (length d.old ≡ n) × (length pred.old ≡ n) × Ranged n x.now × Marked n y.old × Room n y.old × (length v.old ≡ n) × RowEnds (ops C.on) n cost.now start (record { x = x.now; y = y.old; v = v.old }) × C.Costs n cost.now × C.Good n cost.now y.old v.old }
+    ensures { (ca_step (ops C.on) n cost.now start (record { x = x.entry.now; y = y.old; v = v.old }) ≡ record { x = x.exit.now; y = y.new; v = v.new }) × (result ≡ find_path_reads (ops C.on) n cost.now start y.old v.old) }
+{
+    let way = find_path_dense(n, cost, start, d, y, v, pred);
+    augment(n, pred, start, way.last, x, y);
+    way.reads
+}
+
+// Each row left over gets a column, for so many reads; d is lent for the distances.
+pub fn ca_dense<C: Cost>(
+    n: usize,
+    cost: &[C],
+    count: usize,
+    rows: &[usize],
+    d: &mut [C],
+    pred: &mut [usize],
+    x: &mut [i64],
+    y: &mut [i64],
+    v: &mut [C],
+) -> usize
+    requires { Square n cost.now × (length d.old ≡ n) × (length pred.old ≡ n) × Left n (record { rows = rows.now; count = count; x = x.old; y = y.old; v = v.old }) × C.Costs n cost.now × C.Good n cost.now y.old v.old }
+    ensures { (ca_dense (ops C.on) n cost.now count (record { rows = rows.entry.now; count = count; x = x.entry.now; y = y.old; v = v.old }) ≡ record { x = x.exit.now; y = y.new; v = v.new }) × (result ≡ ca_reads (ops C.on) n cost.now count (record { rows = rows.entry.now; count = count; x = x.entry.now; y = y.old; v = v.old })) }
+{
+    let mut reads = 0;
+    for r in 0..count {
+        let start = rows[r];
+        reads += ca_row(n, cost, start, d, pred, x, y, v);
+    }
+    reads
+}
+
+// ca_row where the search has a list of distances of its own.
+fn ca_row_own<C: Cost>(
     n: usize,
     cost: &[C],
     start: usize,
@@ -56,13 +98,13 @@ fn ca_row<C: Cost>(
     requires { Square n cost.now × (start < n) × FitsInMemory (Array C.row 64) × (length pred.old ≡ n) × Ranged n x.now × Marked n y.old × Room n y.old × (length v.old ≡ n) × RowEnds (ops C.on) n cost.now start (record { x = x.now; y = y.old; v = v.old }) × C.Costs n cost.now × C.Good n cost.now y.old v.old }
     ensures { (ca_step (ops C.on) n cost.now start (record { x = x.entry.now; y = y.old; v = v.old }) ≡ record { x = x.exit.now; y = y.new; v = v.new }) × (result ≡ find_path_reads (ops C.on) n cost.now start y.old v.old) }
 {
-    let way = find_path_dense(n, cost, start, y, v, pred);
+    let way = find_path_own(n, cost, start, y, v, pred);
     augment(n, pred, start, way.last, x, y);
     way.reads
 }
 
-// Each row left over gets a column, for so many reads.
-pub fn ca_dense<C: Cost>(
+// ca_dense where each row's search has a list of distances of its own, so 64 costs have to fit the memory.
+pub fn ca_own<C: Cost>(
     n: usize,
     cost: &[C],
     count: usize,
@@ -75,10 +117,10 @@ pub fn ca_dense<C: Cost>(
     requires { Square n cost.now × FitsInMemory (Array C.row 64) × (length pred.old ≡ n) × Left n (record { rows = rows.now; count = count; x = x.old; y = y.old; v = v.old }) × C.Costs n cost.now × C.Good n cost.now y.old v.old }
     ensures { (ca_dense (ops C.on) n cost.now count (record { rows = rows.entry.now; count = count; x = x.entry.now; y = y.old; v = v.old }) ≡ record { x = x.exit.now; y = y.new; v = v.new }) × (result ≡ ca_reads (ops C.on) n cost.now count (record { rows = rows.entry.now; count = count; x = x.entry.now; y = y.old; v = v.old })) }
 {
-    let mut reads = 0;
+    let mut total = 0;
     for r in 0..count {
         let start = rows[r];
-        reads += ca_row(n, cost, start, pred, x, y, v);
+        total += ca_row_own(n, cost, start, pred, x, y, v);
     }
-    reads
+    total
 }

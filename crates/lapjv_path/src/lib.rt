@@ -183,8 +183,26 @@ fn find_path_in<C: Cost>(
 }
 
 // The free column at the end of the shortest way from row start, and the costs read; pred gets the row before each column, and v the new prices.
-// That 64 costs of type C fit the memory is asked for, since of a type that isn't known it can't be proved; of f64 and i64 the check sees it.
+// d is lent, so a type of any size will do.
 pub fn find_path_dense<C: Cost>(
+    n: usize,
+    cost: &[C],
+    start: usize,
+    d: &mut [C],
+    y: &[i64],
+    v: &mut [C],
+    pred: &mut [usize],
+) -> Way
+    requires { Square n cost.now × (start < n) × (length d.old ≡ n) × Marked n y.now × Room n y.now × (length v.old ≡ n) × (length pred.old ≡ n) × C.Costs n cost.now × C.Good n cost.now y.now v.old }
+    ensures { (find_path_dense (ops C.on) n cost.now start y.now v.old ≡ record { pred = pred.exit.now; last = pos result.last; v = v.new }) × (result.reads ≡ find_path_reads (ops C.on) n cost.now start y.now v.old) }
+{
+    let mut cols = [0usize; 64];
+    find_path_in(n, cost, start, d, &mut cols[..n], y, v, pred)
+}
+
+// find_path_dense with a list of distances of its own.
+// That 64 costs of type C fit the memory is asked for, since of a type that isn't known it can't be proved; of f64 and i64 the check sees it.
+pub fn find_path_own<C: Cost>(
     n: usize,
     cost: &[C],
     start: usize,

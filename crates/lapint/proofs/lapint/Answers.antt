@@ -13,8 +13,8 @@ use Rattle.lapjv.proofs.Whole.{fits-sizes}
 use Rattle.lapint.proofs.InRange.{in-range-costs}
 use Rattle.lapint.proofs.lapint.Goals as goal
 
-pub lapjv_in-requires : goal.lapjv_in-requires
-lapjv_in-requires c =
+pub lapjv_own-requires : goal.lapjv_own-requires
+lapjv_own-requires c =
     let a = c.args in
     let s = fits-sizes a.n (length a.cost.now) (length a.x.now) (length a.y.now) (sym c.if-not-sizes_fit.ensures) in
     let q : Square a.n a.cost.now = record { some = s.some; most = s.most; len = s.costs-n } in
@@ -27,7 +27,7 @@ returns c =
     let r = sym c.if-not-all_in_range.ensures in
     let s = fits-sizes a.n (length a.cost.now) (length a.x.now) (length a.y.now) f in
     let q : Square a.n a.cost.now = record { some = s.some; most = s.most; len = s.costs-n } in
-    let e = c.lapjv_in.ensures.0 in
+    let e = c.lapjv_own.ensures.0 in
     record {
       number = rw (f, r);
       rows = rw (f, r) (sym (ap (λ (p : Pairs). p.x) e));

@@ -10,8 +10,8 @@ use Rattle.lapjv_walk.proofs.Whole.{all_end, one_to_one}
 use Rattle.lapjv.proofs.Whole.{fits-sizes}
 use Rattle.lapjv.proofs.lapjv.Goals as goal
 
-pub lapjv_in-reads-requires : goal.lapjv_in-reads-requires
-lapjv_in-reads-requires c =
+pub lapjv_own-reads-requires : goal.lapjv_own-reads-requires
+lapjv_own-reads-requires c =
     let a = c.args in
     let s = fits-sizes a.n (length a.cost.now) (length a.x.now) (length a.y.now) (sym c.if-not-sizes_fit.ensures) in
     (record { some = s.some; most = s.most; len = s.costs-n }, tt, take-fill 0 64 a.n s.most, take_long _ 64 a.n s.most, omega arith, take_long _ 64 a.n s.most, s.rows-n, s.columns-n)
@@ -21,7 +21,7 @@ returns c =
     let a = c.args in
     let f = sym c.if-not-sizes_fit.ensures in
     let s = fits-sizes a.n (length a.cost.now) (length a.x.now) (length a.y.now) f in
-    let e = c.lapjv_in-reads.ensures in
+    let e = c.lapjv_own-reads.ensures in
     record {
       number = rw f;
       rows = rw f (sym (ap (λ (p : Pairs). p.x) e.0));
