@@ -1,28 +1,24 @@
 -- The whole call from what its four steps left, and what sizes that fit mean. Assumes nothing.
-use mathlib.Core.Path.{subst, sym, ◌≡◌}
+use mathlib.Core.Path.{subst, ◌≡◌}
 use mathlib.Core.Bool.{◌&&◌, true}
 use mathlib.Core.List.{List}
 use Prim.Native.Nat.{◌*◌, ◌+◌, ◌<◌, ℕ, ◌≤◌}
 use borrow.Author.Tests.{eqb-true, ltb-true}
 use lib.Dec.{eqb, ltb}
 use lib.IntN.{ℤ}
-use lib.ListN.{length}
 use native.Mathlib.Omega.{arith}
 use Rattle.lapjv_walk.specs.Carr.{carr_dence}
 use Rattle.lapjv_walk.specs.Ccrt.{ccrt_dense, Kept}
 use Rattle.lapjv_walk.specs.Holds.{Left, Square}
 use Rattle.lapjv_walk.specs.Lapjv.{Ca, ca_dense, lapjv, two_passes}
-use Rattle.lapjv_walk.specs.Marks.{num_at}
 use Rattle.lapjv_walk.specs.Ops.{Ops}
 use Rattle.lapjv_walk.specs.Reads.{ca_reads, carr_reads, ccrt_reads, lapjv_reads}
 use Rattle.lapjv_walk.proofs.Carr.{pass-keeps}
 use Rattle.lapjv_walk.proofs.Cases.{and_left, and_right}
-use Rattle.lapjv_walk.proofs.Loops.{walk_none}
 use Rattle.lapjv_walk.proofs.Most.{most-small, reads-most}
 use Rattle.lapjv_walk.proofs.Whole.{ccrt-left}
 use Rattle.costs.specs.OpsOn.{OpsOn, ops}
 use Rattle.costs.specs.Laws.{CostLaws}
-use Rattle.lapjv_ca.proofs.Rows.{Given, row-given}
 use Rattle.lapjv.specs.Answer.{fits}
 
 pub ccrt-leaves : (O : Ops) (n : ℕ) (cost : List O.C) → 0 < n → (k : Kept O.C) → ccrt_dense O n cost ≡ k → Left n k
@@ -39,11 +35,6 @@ module _ {C : Type 0} {on : OpsOn C} {Small : C → Type 0} {Costs Prices Far : 
   pub pass-leaves : (j k : Kept C) → carr_dence (ops on) n cost j ≡ k → Left n j × Good n cost j.y j.v → Left n k × Good n cost k.y k.v
   pass-leaves j k e l = (carr-leaves (ops on) n cost q.some j k e l.0, subst (λ (s : Kept C). Good n cost s.y s.v) e (laws.pass_good n cost h q.some j l.0 l.1))
 
-  -- and the first row left over, right after the columns' reduction
-  pub first-given : (k : Kept C) → ccrt_dense (ops on) n cost ≡ k → 0 < k.count → Given on Good n cost (num_at k.rows 0) (record { x = k.x; y = k.y; v = k.v })
-  unfolding ca_dense
-  first-given k e some = let l = columns-leave k e in row-given laws n cost q h k l.0 l.1 0 (record { x = k.x; y = k.y; v = k.v }) (sym (walk_none _ _ _)) some
-
 pub lapjv-is : (O : Ops) (n : ℕ) (cost : List O.C) (j k l : Kept O.C) (t : Ca O.C) → ccrt_dense O n cost ≡ j → carr_dence O n cost j ≡ k → carr_dence O n cost k ≡ l → ca_dense O n cost l.count l ≡ t
     → lapjv O n cost ≡ record { x = t.x; y = t.y }
 unfolding lapjv two_passes
@@ -59,9 +50,6 @@ reads-are O n cost j k l e₁ e₂ e₃ a b c d ea eb ec ed = rw (e₁, e₂, e�
 pub reads-few : (O : Ops) (n : ℕ) (cost : List O.C) → Square n cost → (j k l : Kept O.C) → ccrt_dense O n cost ≡ j → carr_dence O n cost j ≡ k → carr_dence O n cost k ≡ l
     → (a b c d : ℕ) → a ≡ ccrt_reads O n cost → b ≡ carr_reads O n cost j → c ≡ carr_reads O n cost k → d ≡ ca_reads O n cost l.count l → a + b + c + d ≤ 811_008
 reads-few O n cost q j k l e₁ e₂ e₃ a b c d ea eb ec ed = omega (arith, reads-are O n cost j k l e₁ e₂ e₃ a b c d ea eb ec ed, reads-most O n cost q.some, most-small n q.most)
-
-pub three-square : {C : Type 0} (cost : List C) → length cost ≡ 9 → Square 3 cost
-three-square cost e = record { some = omega arith; most = omega arith; len = e }
 
 pub record Sizes (n costs rows columns : ℕ) : Type 0 where
   pub some : 0 < n

@@ -18,7 +18,8 @@ use Rattle.costs.specs.OpsOn.{OpsOn, ops}
 use Rattle.costs.specs.Laws.{CostLaws}
 use Rattle.lapjv_ca.proofs.Ranged.{paired-ranged}
 
-pub record Given {C : Type 0} (on : OpsOn C) (Good : ℕ → List C → List ℤ → List C → Type 0) (n : ℕ) (cost : List C) (start : ℕ) (s : Ca C) : Type 0 where
+-- what the row start is given to get a column with
+pub record RowGiven {C : Type 0} (on : OpsOn C) (Good : ℕ → List C → List ℤ → List C → Type 0) (n : ℕ) (cost : List C) (start : ℕ) (s : Ca C) : Type 0 where
   pub below : start < n
   pub ranged : Ranged n s.x
   pub marked : Marked n s.y
@@ -27,7 +28,7 @@ pub record Given {C : Type 0} (on : OpsOn C) (Good : ℕ → List C → List ℤ
   pub good : Good n cost s.y s.v
 
 pub row-given : {C : Type 0} {on : OpsOn C} {Small : C → Type 0} {Costs Prices Far : ℕ → List C → Type 0} {Good : ℕ → List C → List ℤ → List C → Type 0} → CostLaws on Small Costs Prices Far Good
-    → (n : ℕ) (cost : List C) → Square n cost → Costs n cost → (k : Kept C) → Left n k → Good n cost k.y k.v → (r : ℕ) (s : Ca C) → s ≡ ca_dense (ops on) n cost r k → r < k.count → Given on Good n cost (num_at k.rows r) s
+    → (n : ℕ) (cost : List C) → Square n cost → Costs n cost → (k : Kept C) → Left n k → Good n cost k.y k.v → (r : ℕ) (s : Ca C) → s ≡ ca_dense (ops on) n cost r k → r < k.count → RowGiven on Good n cost (num_at k.rows r) s
 row-given {C} {on} {Good = Good} laws n cost q h k l g r s e b =
     let w : Queue n (λ p. After k.count r p) k.rows s.x s.y = subst (λ (t : Ca C). Queue n (λ p. After k.count r p) k.rows t.x t.y) (sym e) (queue-at (ops on) n cost k l r (omega (arith, b))) in
     record {

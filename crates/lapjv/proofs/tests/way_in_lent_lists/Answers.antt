@@ -2,7 +2,8 @@
 use mathlib.Core.Path.{refl}
 use native.Mathlib.Omega.{arith}
 use Rattle.costs.specs.Models.{float_laws}
-use Rattle.lapjv.proofs.Whole.{columns-leave, first-given, three-square}
+use Rattle.lapjv.proofs.Lent.{first-given, three-square}
+use Rattle.lapjv.proofs.Whole.{columns-leave}
 use Rattle.lapjv.proofs.tests.way_in_lent_lists.Goals as goal
 
 pub find_path_dense-way-requires : goal.find_path_dense-way-requires
